@@ -1,0 +1,5 @@
+pub mod Choice
+pub mod Sizes
+pub mod Lists
+pub mod Answers
+pub mod Refusals

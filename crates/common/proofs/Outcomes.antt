@@ -1,9 +1,10 @@
 -- An answer taken apart at its tests, in document 01's order.
-use mathlib.Core.Path.{_≡_, refl, sym}
+use mathlib.Core.Path.{_≡_, refl, sym, ap, ap₂}
 use Prim.Native.Nat.{ℕ}
+use native.Mathlib.Omega.{arith}
 use mathlib.Core.Bool.{Bool, true, false, not}
 use Rattle.common.specs.Choice.{if_then_else_}
-use Rattle.common.specs.Answers.{Place, Answer, gives, refused}
+use Rattle.common.specs.Answers.{Place, Answer, gives, refused, outcome}
 
 -- the answer is a refusal, or it gives y and P holds
 pub data Case {A : Type 0} (x : Answer A) (y : A) (P : Type 0) : Type 0 where
@@ -15,7 +16,28 @@ pub test : {A : Type 0} {x : Answer A} {y : A} {P : Type 0} (b : Bool) (n : ℕ)
 test true n at f = no n at refl
 test false n at f = f refl
 
--- what a refused `not` leaves
+-- what is left of a test with `not`
 pub not-true : (b : Bool) → not b ≡ false → b ≡ true
 not-true true e = refl
 not-true false e = sym e
+
+pub true-not : (b : Bool) → not b ≡ true → b ≡ false
+true-not true e = sym e
+true-not false e = refl
+
+-- a refusal gives nothing
+pub refused-gives : {A : Type 0} {y : A} {n : ℕ} {at : Place} → refused n at ≡ gives y → ⊥
+refused-gives e = let z : _≡_ {A = ℕ} 0 1 = cc in omega arith
+
+-- an answer that gives y was refused by no test on the way
+pub past : {A : Type 0} {x : Answer A} {y : A} (b : Bool) (n : ℕ) (at : Place) → (if b then refused n at else x) ≡ gives y → (b ≡ false) × (x ≡ gives y)
+past true n at e = absurd (refused-gives e)
+past false n at e = (refl, e)
+
+-- an outcome that gives y comes of an answer that does
+pub outcome-gives : {A W : Type 0} (was : W) {w : W} {y : A} (a : Answer (A × W)) → outcome was a ≡ (gives y, w) → a ≡ gives (y, w)
+outcome-gives was {w} {y} (gives x) e =
+    let given : gives (x .0) ≡ gives y = ap (λ (o : _). o .0) e in
+    let left : x .0 ≡ y = cc in
+    ap₂ (λ (a : _) (v : _). gives (a, v)) left (ap (λ (o : _). o .1) e)
+outcome-gives was (refused n at) e = absurd (refused-gives (ap (λ (o : _). o .0) e))

@@ -2,10 +2,11 @@
 use Prim.Native.Nat.{ℕ, suc, _+_, _-_, _≤_, _<_}
 use mathlib.Core.Path.{_≡_, refl, sym, ap, ap₂, _∙_}
 use mathlib.Core.List.{List, [], _∷_, _++_, append-nil, append-assoc}
+use native.Mathlib.Numerals.{add-one}
 use native.Mathlib.Omega.{arith}
 use native.Mathlib.Nat.{not-suc-le-zero}
 use lib.ListN.{length, take, drop, set, length-append, length-drop, length-set, drop-of-length-le, take-append-drop}
-use lib.Seq.{take-all, take-length, drop-length, drop-drop, take-at, drop-at, take-append-add, drop-append-add, length-take-le, paste}
+use lib.Seq.{take-all, drop-length, drop-drop, take-at, drop-at, take-append-add, drop-append-add, length-take-le, set-split, paste}
 use borrow.Rule.Slice.PartMut.{putMid, same-len-mid}
 use Rattle.common.specs.Lists.{_over_, overAt}
 
@@ -27,9 +28,9 @@ module _ {A : Type 0} where
   pub over-none : (at : ℕ) (room : List A) → overAt at [] room ≡ room
   over-none at room = take-append-drop at room
 
-  -- the toolchain's name for a run of n elements written over a list, where all of x is written
-  pub paste-over : (at : ℕ) (x room : List A) → paste room at x (length x) ≡ overAt at x room
-  paste-over at x room = rw (take-length, append-assoc, drop-drop)
+  -- the toolchain's name for the first n elements of x written over a list
+  pub paste-over : (at n : ℕ) (x room : List A) → n ≤ length x → paste room at x n ≡ overAt at (take n x) room
+  paste-over at n x room h = rw (length-take-le n x h, append-assoc, drop-drop)
 
   -- a result after another
   pub over-append : (x y room : List A) (n : ℕ) → length x ≡ n → take n (x over room) ++ (y over drop n (x over room)) ≡ (x ++ y) over room
@@ -44,6 +45,15 @@ module _ {A : Type 0} where
       let d : drop (at + w) all ≡ drop w (x over drop at room) =
       ap (λ (k : ℕ). drop (k + w) all) (sym l) ∙ drop-append-add (take at room) (x over drop at room) w in
       rw (t, d, append-assoc, over-append x y (drop at room) w e)
+
+  -- a store is one element over the room, and a second store a second one after it
+  pub set-over : (at : ℕ) (a : A) (room : List A) → at < length room → set room at a ≡ overAt at (a ∷ []) room
+  set-over at a room h = rw (set-split room at a h, drop-drop, add-one)
+
+  pub set-over-two : (at : ℕ) (a b : A) (room : List A) → at + 1 < length room → set (set room at a) (at + 1) b ≡ overAt at (a ∷ b ∷ []) room
+  set-over-two at a b room h =
+      let first : set room at a ≡ overAt at (a ∷ []) room = set-over at a room (omega arith) in
+      rw (set-over (at + 1) b (set room at a) (simp length-set (omega arith)), first) (over-next (a ∷ []) (b ∷ []) room at 1 (omega arith) refl)
 
 -- ---- the part that runs to the end
 

@@ -1,0 +1,101 @@
+use borrow.Author.Needs.{needs}
+use native.Mathlib.Omega.{arith}
+use mathlib.Core.Path.{_≡_, sym, ap, _∙_}
+use Prim.Native.Nat.{_+_}
+use lib.ListN.{getD}
+use denote.Ref.{now}
+use mathlib.Core.Option.{some}
+use Rattle.streamname.specs.inner.Packing.{letterOf}
+use Rattle.streamname.specs.Letters.{toB64}
+use Rattle.streamname.proofs.LetterLaws.{letter-below}
+use Rattle.streamname.proofs.EncodeLaws.{front-passes, front-last, front-lone, front-pair}
+use Rattle.streamname.proofs.encoding.pack.Statement.{statement}
+use Rattle.streamname.proofs.encoding.pack.Tie as tie
+
+-- `a` is the number of the unit at `at`, and `b` that of the next
+a-is : (c : tie.After-known-told) → toB64 (getD (now (c .before .before .before .before .before .before .args .name)) (c .before .before .before .before .before .before .args .at) 0) ≡ some (c .before .a .given .0 .0)
+a-is c = sym (c .before .before .before .to-b64 .ensures) ∙ ap letterOf (c .before .a .given .1)
+
+b-is : (c : tie.After-known-told2) → toB64 (getD (now (c .before .before .before .before .before .before .before .before .before .before .before .before .args .name)) (c .before .before .before .before .before .before .before .before .before .before .before .before .args .at + 1) 0) ≡ some (c .before .b .given .0 .0)
+b-is c = sym (c .before .before .before .to-b642 .ensures) ∙ ap letterOf (c .before .b .given .1)
+
+mul-unit : tie.Need-mul-unit
+mul-unit c = search needs
+
+shared-slice-read-unit : tie.Need-shared-slice-read-unit
+shared-slice-read-unit c = search needs
+
+to-b64-requires : tie.Need-to-b64-requires
+to-b64-requires c κs = search needs
+
+enum-known-a : tie.Need-enum-known-a
+enum-known-a c = search needs
+
+enum-told : tie.Need-enum-told
+enum-told c = search needs
+
+returns : tie.Need-returns
+returns c = front-passes _ _ (c .before .before .before .before .before .pre) (sym (c .before .before .to-b64 .ensures) ∙ ap letterOf (c .enum-told .given .1))
+
+add-to-b64 : tie.Need-add-to-b64
+add-to-b64 c = omega (arith, letter-below _ _ (a-is c))
+
+add-next : tie.Need-add-next
+add-next c = search needs
+
+returns-2 : tie.Need-returns-2
+returns-2 c = front-last _ _ (c .before .before .before .before .before .before .before .pre) _ (a-is (c .before)) (c .if1 .taken)
+
+mul-to-b64 : tie.Need-mul-to-b64
+mul-to-b64 c = search needs
+
+shared-slice-read-to-b64 : tie.Need-shared-slice-read-to-b64
+shared-slice-read-to-b64 c = search needs
+
+to-b64-requires-2 : tie.Need-to-b64-requires-2
+to-b64-requires-2 c κs = search needs
+
+enum-known-b : tie.Need-enum-known-b
+enum-known-b c = search needs
+
+enum-told-2 : tie.Need-enum-told-2
+enum-told-2 c = search needs
+
+returns-3 : tie.Need-returns-3
+returns-3 c = front-lone _ _ (c .before .before .before .before .before .before .before .before .before .before .before .pre) _ (a-is (c .before .before .before .before .before)) (c .before .before .before .before .if1 .left) (sym (c .before .before .to-b642 .ensures) ∙ ap letterOf (c .enum-told2 .given .1))
+
+mul-t10 : tie.Need-mul-t10
+mul-t10 c = omega (arith, letter-below _ _ (a-is (c .before .before .before .before .before .before)), letter-below _ _ (b-is c))
+
+add-t15 : tie.Need-add-t15
+add-t15 c = omega (arith, letter-below _ _ (a-is (c .before .before .before .before .before .before)), letter-below _ _ (b-is c))
+
+add-t16 : tie.Need-add-t16
+add-t16 c = omega (arith, letter-below _ _ (a-is (c .before .before .before .before .before .before)), letter-below _ _ (b-is c))
+
+returns-4 : tie.Need-returns-4
+returns-4 c = front-pair _ _ (c .before .before .before .before .before .before .before .before .before .before .before .before .pre) _ (a-is (c .before .before .before .before .before .before)) (c .before .before .before .before .before .if1 .left) _ (b-is c)
+
+pub pack-spec : {M : Type 1} → statement M
+pack-spec =
+    tie.close
+    (tie.spec
+    mul-unit
+    shared-slice-read-unit
+    to-b64-requires
+    enum-known-a
+    enum-told
+    returns
+    add-to-b64
+    add-next
+    returns-2
+    mul-to-b64
+    shared-slice-read-to-b64
+    to-b64-requires-2
+    enum-known-b
+    enum-told-2
+    returns-3
+    mul-t10
+    add-t15
+    add-t16
+    returns-4)

@@ -1,0 +1,39 @@
+use Rattle.common.proofs.Outcomes.{not-true, true-not}
+use mathlib.Core.Path.{_≡_, sym, _∙_}
+use borrow.Author.Tests.{lt-ltb, le-ltb, eq-eqb, ne-eqb, le-leb, lt-leb}
+use borrow.Author.Needs.{needs}
+use Rattle.streamname.proofs.is_valid.Statement.{statement}
+use Rattle.streamname.proofs.is_valid.Tie as tie
+
+returns : tie.Need-returns
+returns c = simp (lt-ltb _ _ (c .if1 .taken))
+
+returns-2 : tie.Need-returns-2
+returns-2 c = simp (le-ltb _ _ (c .before .if1 .left), eq-eqb _ _ (c .if2 .taken))
+
+keeps-flag-requires : tie.Need-keeps-flag-requires
+keeps-flag-requires c κs = search needs
+
+returns-3 : tie.Need-returns-3
+returns-3 c = simp (le-ltb _ _ (c .before .before .before .if1 .left), ne-eqb _ _ (c .before .before .if2 .left), sym (c .before .keeps-flag .ensures) ∙ true-not _ (c .if3 .taken))
+
+encoded-units-requires : tie.Need-encoded-units-requires
+encoded-units-requires c κs = search needs
+
+returns-4 : tie.Need-returns-4
+returns-4 c = simp (le-ltb _ _ (c .before .before .before .before .before .if1 .left), ne-eqb _ _ (c .before .before .before .before .if2 .left), sym (c .before .before .before .keeps-flag .ensures) ∙ not-true _ (c .before .before .if3 .left), lt-leb _ _ (rw (c .before .encoded-units .ensures) at (c .if4 .taken)))
+
+returns-5 : tie.Need-returns-5
+returns-5 c = simp (le-ltb _ _ (c .before .before .before .before .before .if1 .left), ne-eqb _ _ (c .before .before .before .before .if2 .left), sym (c .before .before .before .keeps-flag .ensures) ∙ not-true _ (c .before .before .if3 .left), le-leb _ _ (rw (c .before .encoded-units .ensures) at (c .if4 .left)))
+
+pub is-valid-spec : {M : Type 1} → statement M
+is-valid-spec =
+    tie.close
+    (tie.spec
+    returns
+    returns-2
+    keeps-flag-requires
+    returns-3
+    encoded-units-requires
+    returns-4
+    returns-5)

@@ -1,0 +1,78 @@
+// Packing a name: its length, and its units.
+use crate::letters::Packing;
+use crate::letters::to_b64;
+ghost use mathlib.Core.Path.{_≡_};
+ghost use Prim.Native.Nat.{_≤_, _<_};
+ghost use lib.ListN.{length};
+ghost use Rattle.common.specs.Lists.{_over_};
+ghost use Rattle.streamname.specs.Names.{encoded, encodedName};
+ghost use Rattle.streamname.specs.inner.Packing.{Front};
+
+// A packed unit, and how many units of the name it takes.
+pub(crate) struct Packed {
+    pub unit: u16,
+    pub used: usize,
+}
+
+// Packs what stands at `at`: two letters, a lone one, or any other unit as it is.
+pub(crate) fn pack(name: &[u16], at: usize) -> Packed
+    requires { ⌜ at < length (now name) ⌝ }
+    ensures { λ r. ⌜ Front (now (name .entry)) at r ⌝ }
+{
+    let unit = name[at];
+    let Packing::Letter(a) = to_b64(unit) else {
+        return Packed { unit, used: 1 };
+    };
+    let alone = Packed {
+        unit: 0x4800 + a,
+        used: 1,
+    };
+    let next = at + 1;
+    if name.len() <= next {
+        return alone;
+    }
+    let Packing::Letter(b) = to_b64(name[next]) else {
+        return alone;
+    };
+    Packed {
+        unit: 0x3800 + 64 * b + a,
+        used: 2,
+    }
+}
+
+// How many units the packed name has.
+pub(crate) fn encoded_len(name: &[u16]) -> usize
+    ensures { λ r. ⌜ r ≡ length (encoded (now (name .entry))) ⌝ }
+{
+    let mut units = 0;
+    let mut i = 0;
+    while i < name.len() {
+        let packed = pack(name, i);
+        units += 1;
+        i += packed.used;
+    }
+    units
+}
+
+// How many units `encode` writes.
+pub(crate) fn encoded_units(name: &[u16], is_table: bool) -> usize
+    ensures { λ r. ⌜ r ≡ length (encodedName (now (name .entry)) «is_table») ⌝ }
+{
+    let units = encoded_len(name);
+    if is_table { units + 1 } else { units }
+}
+
+// Writes the packed name to the front of `out`, which has room for it.
+pub(crate) fn write_encoded(name: &[u16], out: &mut [u16])
+    requires { ⌜ length (encoded (now name)) ≤ length (now out) ⌝ }
+    ensures { λ _. ⌜ now (out .exit) ≡ encoded (now (name .entry)) over now (out .entry) ⌝ }
+{
+    let mut at = 0;
+    let mut i = 0;
+    while i < name.len() {
+        let packed = pack(name, i);
+        out[at] = packed.unit;
+        at += 1;
+        i += packed.used;
+    }
+}

@@ -1,0 +1,112 @@
+// Stream names of an MSI database: packed into fewer UTF-16 units, and back.
+// The rules are document 01, "Stream names, in UTF-16 units"; specs/Names.antt says them, specs/Calls.antt what each call answers.
+mod decoding;
+mod encoding;
+mod letters;
+
+use crate::decoding::decoded_len;
+use crate::decoding::is_table_name;
+use crate::decoding::strip;
+use crate::decoding::write_decoded;
+use crate::encoding::encoded_units;
+use crate::encoding::write_encoded;
+use common::Refusal;
+use common::sizes::MAX_NAME;
+use common::sizes::MAX_STORED;
+ghost use mathlib.Core.Path.{_≡_};
+ghost use mathlib.Core.Bool.{not, _||_};
+ghost use Rattle.streamname.specs.Names.{isTable};
+ghost use Rattle.streamname.specs.Calls.{encodedAs, decodedAs, judgedAs, encodeOutcome, decodeOutcome, validAnswer};
+
+// The unit in front of a table's name.
+const TABLE_PREFIX: u16 = 0x4840;
+
+// The longest name of a stream in a compound file, in units.
+const MAX_STREAM: usize = 31;
+
+pub enum Encoded {
+    Units(usize),
+    Refused(Refusal),
+}
+
+pub enum Decoded {
+    Name { units: usize, is_table: bool },
+    Refused(Refusal),
+}
+
+pub enum Validity {
+    Valid,
+    Invalid,
+    Refused(Refusal),
+}
+
+// Encodes a stream name into the front of `out`, and answers how many units that are.
+pub fn encode(name: &[u16], is_table: bool, out: &mut [u16]) -> Encoded
+    ensures { λ r. ⌜ (encodedAs r, now (out .exit)) ≡ encodeOutcome (now (name .entry)) «is_table» (now (out .entry)) ⌝ }
+{
+    if MAX_NAME < name.len() {
+        return Encoded::Refused(Refusal::OverSize);
+    }
+    let units = encoded_units(name, is_table);
+    if out.len() < units {
+        return Encoded::Refused(Refusal::OutputRoom);
+    }
+    if is_table {
+        out[0] = TABLE_PREFIX;
+        write_encoded(name, &mut out[1..]);
+    } else {
+        write_encoded(name, out);
+    }
+    Encoded::Units(units)
+}
+
+// Decodes a stream name into the front of `out`, and answers how many units that are and whether it is a table's.
+pub fn decode(stored: &[u16], out: &mut [u16]) -> Decoded
+    ensures { λ r. ⌜ (decodedAs r, now (out .exit)) ≡ decodeOutcome (now (stored .entry)) (now (out .entry)) ⌝ }
+{
+    if MAX_STORED < stored.len() {
+        return Decoded::Refused(Refusal::OverSize);
+    }
+    let packed = strip(stored);
+    let units = decoded_len(packed);
+    if MAX_NAME < units {
+        return Decoded::Refused(Refusal::OverSize);
+    }
+    if out.len() < units {
+        return Decoded::Refused(Refusal::OutputRoom);
+    }
+    write_decoded(packed, out);
+    Decoded::Name {
+        units,
+        is_table: is_table_name(stored),
+    }
+}
+
+// Whether a name keeps its flag: a plain one that begins with the prefix would be taken for a table's.
+fn keeps_flag(name: &[u16], is_table: bool) -> bool
+    ensures { λ r. ⌜ r ≡ («is_table» || not (isTable (now (name .entry)))) ⌝ }
+{
+    if is_table {
+        return true;
+    }
+    !is_table_name(name)
+}
+
+// Whether a name works as a stream's once it is encoded.
+pub fn is_valid(name: &[u16], is_table: bool) -> Validity
+    ensures { λ r. ⌜ judgedAs r ≡ validAnswer (now (name .entry)) «is_table» ⌝ }
+{
+    if MAX_NAME < name.len() {
+        return Validity::Refused(Refusal::OverSize);
+    }
+    if name.len() == 0 {
+        return Validity::Invalid;
+    }
+    if !keeps_flag(name, is_table) {
+        return Validity::Invalid;
+    }
+    if MAX_STREAM < encoded_units(name, is_table) {
+        return Validity::Invalid;
+    }
+    Validity::Valid
+}

@@ -1,10 +1,14 @@
 -- An answer taken apart at its tests, in document 01's order.
 use mathlib.Core.Path.{_≡_, refl, sym, ap, ap₂}
-use Prim.Native.Nat.{ℕ}
+use Prim.Native.Nat.{ℕ, _≤_}
+use mathlib.Core.List.{List}
+use lib.ListN.{length}
+use borrow.Author.Tests.{ltb-false}
 use native.Mathlib.Omega.{arith}
 use mathlib.Core.Bool.{Bool, true, false, not}
-use Rattle.common.specs.Choice.{if_then_else_}
-use Rattle.common.specs.Answers.{Place, Answer, gives, refused, outcome}
+use Rattle.common.specs.Choice.{if_then_else_, _<?_}
+use Rattle.common.specs.Lists.{_over_}
+use Rattle.common.specs.Answers.{Place, nowhere, Answer, gives, refused, onGiven, outcome, writtenTo}
 
 -- the answer is a refusal, or it gives y and P holds
 pub data Case {A : Type 0} (x : Answer A) (y : A) (P : Type 0) : Type 0 where
@@ -41,3 +45,13 @@ outcome-gives was {w} {y} (gives x) e =
     let left : x .0 ≡ y = cc in
     ap₂ (λ (a : _) (v : _). gives (a, v)) left (ap (λ (o : _). o .1) e)
 outcome-gives was (refused n at) e = absurd (refused-gives (ap (λ (o : _). o .0) e))
+
+-- what was written had room
+pub wrote : {A B : Type 0} (out result : List A) (more : ℕ × List A → Answer B) {y : B} → onGiven (writtenTo out result) more ≡ gives y
+    → (length result ≤ length out) × (more (length result, result over out) ≡ gives y)
+wrote out result more {y} e = go (length out <? length result) refl e
+  where
+    go : (b : Bool) → (length out <? length result) ≡ b → onGiven (if b then refused 7 nowhere else gives (length result, result over out)) more ≡ gives y
+        → (length result ≤ length out) × (more (length result, result over out) ≡ gives y)
+    go true f e = absurd (refused-gives e)
+    go false f e = (ltb-false _ _ f, e)

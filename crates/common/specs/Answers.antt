@@ -1,6 +1,9 @@
 -- The form of every call's meaning: what it answers, in document 01's terms, and what its lent rooms hold afterwards.
 use Prim.Native.Nat.{ℕ}
 use mathlib.Core.List.{List, [], _∷_}
+use lib.ListN.{length}
+use Rattle.common.specs.Choice.{if_then_else_, _<?_}
+use Rattle.common.specs.Lists.{_over_}
 
 -- "with the column or cell place for 13, 16, 17, 18, 19 and for 8 in a cell"; a cell by its row, then its column, from 0 on
 pub data Place : Type 0 where
@@ -32,3 +35,7 @@ outcome was (refused n at) = (refused n at, was)
 abbrev pub refusalOf : {A : Type 0} → Answer A → Answer (Unit {0})
 refusalOf (gives a) = gives tt
 refusalOf (refused n at) = refused n at
+
+-- "7 output too small for the whole result"; else the result's length, and the output with the result written to its front
+abbrev pub writtenTo : {A : Type 0} → List A → List A → Answer (ℕ × List A)
+writtenTo out result = if length out <? length result then refused 7 nowhere else gives (length result, result over out)

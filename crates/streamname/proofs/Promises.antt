@@ -11,7 +11,7 @@ use Rattle.common.specs.Sizes.{maxName, maxStored}
 use Rattle.common.specs.Lists.{_over_}
 use Rattle.common.specs.Choice.{_<?_}
 use Rattle.common.specs.Answers.{Answer, gives, refused, nowhere}
-use Rattle.common.proofs.Outcomes.{past, outcome-gives}
+use Rattle.common.proofs.Outcomes.{past, outcome-gives, wrote as fitted}
 use Rattle.streamname.specs.Names.{encodedName, decodedName, isTable}
 use Rattle.streamname.specs.Calls.{encodeOutcome, decodeAnswer, decodeOutcome}
 use Rattle.streamname.specs.Promises.{Returns, StoredSize, written, CallsReturn}
@@ -33,7 +33,7 @@ gave : (stored out : List ℕ) (n : ℕ) (t : Bool) (last : List ℕ) → decode
     → _≡_ {A = (ℕ × Bool) × List ℕ} ((length (decodedName stored), isTable stored), decodedName stored over out) ((n, t), last)
 gave stored out n t last e =
     let sized = past (maxStored <? length stored || maxName <? length (decodedName stored)) 22 nowhere (outcome-gives out (decodeAnswer stored out) e) .1 in
-    let given = past (length out <? length (decodedName stored)) 7 nowhere sized .1 in
+    let given = fitted out (decodedName stored) (λ x. gives ((x .0, isTable stored), x .1)) sized .1 in
     cc
 
 module _ (name : List ℕ) (table : Bool) (out back : List ℕ)

@@ -5,8 +5,7 @@ use mathlib.Core.List.{List}
 use lib.ListN.{length}
 use Rattle.common.specs.Choice.{if_then_else_, _<?_}
 use Rattle.common.specs.Sizes.{maxName, maxStored}
-use Rattle.common.specs.Lists.{_over_}
-use Rattle.common.specs.Answers.{Answer, gives, refused, nowhere, outcome}
+use Rattle.common.specs.Answers.{Answer, gives, refused, nowhere, onGiven, outcome, writtenTo}
 use Rattle.common.specs.Refusals.{refusedBy}
 use Rattle.streamname.specs.Names.{encodedName, isTable, decodedName, valid}
 use Rattle.streamname.specs.declared.Encoded.{Encoded}
@@ -19,10 +18,8 @@ use Rattle.streamname.specs.declared.Validity.the-variants as judge
 -- "22 first"; "Names and pool writing: 7"
 abbrev pub encodeAnswer : List ℕ → Bool → List ℕ → Answer (ℕ × List ℕ)
 encodeAnswer name table out =
-    let result = encodedName name table in
     if maxName <? length name then refused 22 nowhere
-    else if length out <? length result then refused 7 nowhere
-    else gives (length result, result over out)
+    else writtenTo out (encodedName name table)
 
 abbrev pub encodeOutcome : List ℕ → Bool → List ℕ → Answer ℕ × List ℕ
 encodeOutcome name table out = outcome out (encodeAnswer name table out)
@@ -32,8 +29,7 @@ abbrev pub decodeAnswer : List ℕ → List ℕ → Answer ((ℕ × Bool) × Lis
 decodeAnswer stored out =
     let result = decodedName stored in
     if maxStored <? length stored || maxName <? length result then refused 22 nowhere
-    else if length out <? length result then refused 7 nowhere
-    else gives ((length result, isTable stored), result over out)
+    else onGiven (writtenTo out result) (λ x. gives ((x .0, isTable stored), x .1))
 
 abbrev pub decodeOutcome : List ℕ → List ℕ → Answer (ℕ × Bool) × List ℕ
 decodeOutcome stored out = outcome out (decodeAnswer stored out)

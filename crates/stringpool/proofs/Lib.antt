@@ -1,0 +1,12 @@
+pub mod Drop
+pub mod Entries
+pub mod Fast
+pub mod House
+pub mod Loads
+pub mod Look
+pub mod Signed
+pub mod Sound
+pub mod Splice
+pub mod Streams
+pub mod Sums
+pub mod Take

@@ -4,8 +4,8 @@ use mathlib.Core.Bool.{Bool, true, false, _&&_}
 use mathlib.Core.List.{List, [], _++_, map}
 use lib.ListN.{length}
 use Rattle.common.specs.Choice.{if_then_else_, _<?_, _≤?_, _=?_}
-use Rattle.common.specs.Lists.{joined, _over_}
-use Rattle.common.specs.Answers.{Answer, gives, refused, nowhere, outcome}
+use Rattle.common.specs.Lists.{joined}
+use Rattle.common.specs.Answers.{Answer, gives, outcome, writtenTo}
 use Rattle.common.specs.Refusals.{refusedBy}
 use Rattle.little_endian.specs.Numbers.{bytesOf}
 use Rattle.stringpool.specs.Pool.{Entry, Rooms, entriesOf, texts, onSound}
@@ -38,7 +38,7 @@ dataBytes p w = texts (entriesOf p w)
 
 -- "7: output too small for the whole result"
 abbrev pub writeAnswer : List ℕ → List ℕ → Answer (ℕ × List ℕ)
-writeAnswer bytes out = if length out <? length bytes then refused 7 nowhere else gives (length bytes, bytes over out)
+writeAnswer bytes out = writtenTo out bytes
 
 -- 22, 24, 7
 abbrev pub writeOutcome : StringPool → Rooms → List ℕ → List ℕ → Answer ℕ × List ℕ

@@ -27,7 +27,7 @@ use Rattle.stringpool.specs.declared.pool.StringPool.{StringPool}
 use Rattle.stringpool.proofs.Entries.{both, lengths-cut, counts-cut, texts-cut}
 use Rattle.stringpool.proofs.Sound.{SoundFit, then-second, false-true}
 use Rattle.stringpool.proofs.Streams.{is-narrow, is-wide, length-narrow, length-wide, length-entry, pool-same, data-same, write-done}
-use Rattle.stringpool_promises.specs.Promises.{State, SoundState, Counts16, Back, ReadsBack, addFound, addIn, stray, shortWide, Plain, Writes, Exactly, SamePoolStream, SameDataStream}
+use Rattle.stringpool_promises.specs.Promises.{State, SoundState, Counts16, Back, ReadsBack, addFound, addIn, stray, shortWide, Plain, Writes, SamePoolStream, SameDataStream}
 use Rattle.stringpool.proofs.Loads.{load-judged}
 use Rattle.stringpool_promises.proofs.Lists.{cut-texts}
 use Rattle.stringpool_promises.proofs.Sounds.{fit-sound, sound-fits}

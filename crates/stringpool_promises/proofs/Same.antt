@@ -5,7 +5,7 @@ use native.Mathlib.Nat.{add-zero}
 use native.Mathlib.Omega.{arith}
 use mathlib.Core.Bool.{Bool, true, false, not, _&&_, _||_}
 use mathlib.Core.List.{List, [], _∷_, _++_, map, append-assoc, append-nil}
-use mathlib.Core.Logic.{_⊎_, inl, inr, ⊎-elim}
+use mathlib.Core.Logic.{_↔_, _⊎_, inl, inr, ⊎-elim}
 use lib.Dec.{ltb, leb, eqb}
 use lib.ListN.{length, take, drop, getD, length-drop, length-append, length-take, take-append-drop, List·getD-eq-default}
 use lib.Seq.{length-take-le, take-all, take-at, drop-at, take-add, drop-drop, getD-take, drop-cons}
@@ -28,7 +28,7 @@ use Rattle.stringpool.specs.declared.pool.StringPool.{StringPool}
 use Rattle.stringpool.proofs.Entries.{both, lengths-cut, counts-cut, texts-cut}
 use Rattle.stringpool.proofs.Sound.{SoundFit, then-second, false-true}
 use Rattle.stringpool.proofs.Streams.{is-narrow, is-wide, length-narrow, length-wide, length-entry, pool-same, data-same, write-done}
-use Rattle.stringpool_promises.specs.Promises.{State, SoundState, Counts16, Back, ReadsBack, addFound, addIn, stray, shortWide, Plain, Writes, Exactly, SamePoolStream, SameDataStream}
+use Rattle.stringpool_promises.specs.Promises.{State, SoundState, Counts16, Back, ReadsBack, addFound, addIn, stray, shortWide, Plain, Writes, SamePoolStream, SameDataStream}
 use Rattle.stringpool.proofs.Loads.{load-judged}
 use Rattle.stringpool_promises.proofs.Lists.{cut-texts}
 use Rattle.stringpool_promises.proofs.Sounds.{fit-sound, sound-fits}
@@ -184,7 +184,7 @@ module _ (s d : List ℕ) (w v : Rooms) (p : StringPool) (out : List ℕ) (b : A
   length-pool =
       omega (arith, ap length pool-is, length-append (take 4 s) (entriesBytes (l .ls) (l .cs)), length-take-le 4 s (l .marked), all-written .sum, length-drop 4 s, l .marked)
 
-  pub pool-stream : length s ≤ length out → Exactly (Writes p v (poolBytes p v) out s) (Plain s)
+  pub pool-stream : length s ≤ length out → Writes p v (poolBytes p v) out s ↔ Plain s
   pool-stream room =
       let fits : length (poolBytes p v) ≤ length out = omega (arith, length-pool) in (
         λ q. let n = ap length (same-from (poolBytes p v) s room fits q) in (omega (arith, n, length-pool), omega (arith, n, length-pool)),
@@ -204,7 +204,7 @@ module _ (s d : List ℕ) (w v : Rooms) (p : StringPool) (out : List ℕ) (b : A
   used-is =
       ap₂ (λ (q : StringPool) (r : Rooms). total (take (q .«num_strings») (r .lengths))) (l .pool) (l .left) ∙ ap total (lengths-in s d w p v b l)
 
-  pub data-stream : length d ≤ length out → Exactly (Writes p v (dataBytes p v) out d) (length d ≡ total (take (p .«num_strings») (v .lengths)))
+  pub data-stream : length d ≤ length out → Writes p v (dataBytes p v) out d ↔ (length d ≡ total (take (p .«num_strings») (v .lengths)))
   data-stream room =
       let n : length (dataBytes p v) ≡ total (l .ls) = ap length data-is ∙ length-take-le (total (l .ls)) d (l .in-data) in
       let fits : length (dataBytes p v) ≤ length out = omega (arith, n, l .in-data) in (

@@ -1,6 +1,7 @@
 -- Demand 3, over any list of takes and drops, each take by any legal choice.
 use Prim.Native.Nat.{ℕ, zero, suc, _+_, _≤_, _<_}
 use mathlib.Core.Path.{_≡_}
+use mathlib.Core.Logic.{_↔_}
 use mathlib.Core.Bool.{Bool, true, false, not, _&&_, _||_}
 use mathlib.Core.List.{List, [], _∷_, _++_, map}
 use lib.ListN.{length, take, drop, getD}
@@ -216,15 +217,12 @@ Plain s = (addIn stray (length s) (drop 4 s) ≡ 0) × (addIn shortWide (length 
 abbrev pub Writes : StringPool → Rooms → List ℕ → List ℕ → List ℕ → Type 0
 Writes p w bytes out s = writeOutcome p w bytes out ≡ (gives (length s), s over out)
 
-abbrev pub Exactly : Type 0 → Type 0 → Type 0
-Exactly A B = (A → B) × (B → A)
-
 -- "A pool stream read is written back identically exactly when there was no stray byte and no 4-byte length from 1 to 65,535."
 abbrev pub SamePoolStream : Type 0
 SamePoolStream = (s d : List ℕ) (w v : Rooms) (p : StringPool) (out : List ℕ) → AreBytes s → loadOutcome s d w ≡ (gives p, v) → length s ≤ length out
-    → Exactly (Writes p v (poolBytes p v) out s) (Plain s)
+    → Writes p v (poolBytes p v) out s ↔ Plain s
 
 -- the data stream exactly when nothing follows the texts
 abbrev pub SameDataStream : Type 0
 SameDataStream = (s d : List ℕ) (w v : Rooms) (p : StringPool) (out : List ℕ) → AreBytes s → loadOutcome s d w ≡ (gives p, v) → length d ≤ length out
-    → Exactly (Writes p v (dataBytes p v) out d) (length d ≡ total (take (p .«num_strings») (v .lengths)))
+    → Writes p v (dataBytes p v) out d ↔ (length d ≡ total (take (p .«num_strings») (v .lengths)))

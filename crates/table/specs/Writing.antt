@@ -6,8 +6,8 @@ use lib.IntN.{ℤ, pos}
 use lib.ListN.{length, getD}
 use Rattle.common.specs.Choice.{if_then_else_, _<?_, _=?_}
 use Rattle.common.specs.Sizes.{maxRows}
-use Rattle.common.specs.Lists.{_over_, joined, from}
-use Rattle.common.specs.Answers.{Answer, gives, refused, nowhere, cell, onGiven, each, outcome}
+use Rattle.common.specs.Lists.{joined, from}
+use Rattle.common.specs.Answers.{Answer, gives, refused, nowhere, cell, onGiven, each, outcome, writtenTo}
 use Rattle.little_endian.specs.Numbers.{bytesOf}
 use Rattle.column.specs.declared.column.ColumnType.{ColumnType}
 use Rattle.column.specs.Cells.{width, stored}
@@ -42,9 +42,7 @@ writtenRows most ts long rows cells out =
     let count = rows * length ts in
     if most <? rows then refused 14 nowhere
     else if not (length (cells .kinds) =? count && length (cells .numbers) =? count) then refused 23 nowhere
-    else onGiven (tableBytes ts long rows cells) (λ bytes.
-    if length out <? length bytes then refused 7 nowhere
-    else gives (length bytes, bytes over out))
+    else onGiven (tableBytes ts long rows cells) (writtenTo out)
 
 abbrev pub writeRowsAnswer : Table → ℕ → Cells → List ℕ → Answer (ℕ × List ℕ)
 writeRowsAnswer t rows cells out = onColumns t (writtenRows maxRows (typesOf t) (t .«long_string_refs») rows cells out)

@@ -1,0 +1,57 @@
+use borrow.Author.Needs.{needs}
+use Prim.Native.Nat.{_-_}
+use mathlib.Core.Path.{_≡_}
+use lib.ListN.{length}
+use Rattle.stringpool_runs.proofs.say_bytes.Statement.{statement}
+use Rattle.stringpool_runs.proofs.say_bytes.Tie as tie
+use Rattle.stringpool_runs.proofs.say_bytes.Reads as reads
+use Rattle.stringpool_runs.proofs.say_bytes.Lts as lts
+use Rattle.stringpool_runs.proofs.say_byte.Reads as say-byte-reads
+
+abbrev Inv-loop : tie.InvT-loop
+Inv-loop bytes i₀ i-end i = i-end ≡ length bytes
+
+abbrev μ-loop : tie.MeasureT-loop
+μ-loop bytes i₀ i-end i = i-end - i
+
+-- src/main.rt:37:5
+loop-holds : tie.Need-loop-holds Inv-loop μ-loop
+loop-holds c = search needs
+
+-- src/main.rt:38:18
+shared-slice-read-say-byte : tie.Need-shared-slice-read-say-byte Inv-loop μ-loop
+shared-slice-read-say-byte c = search needs
+
+-- src/main.rt:38:9
+say-byte-requires : tie.Need-say-byte-requires Inv-loop μ-loop
+say-byte-requires c κs = search needs
+
+-- src/main.rt:37:9
+add-i : tie.Need-add-i Inv-loop μ-loop
+add-i c = search needs
+
+-- src/main.rt:37:5
+loop-less : tie.Need-loop-less Inv-loop μ-loop
+loop-less c = search needs
+
+-- src/main.rt:37:5
+loop-again : tie.Need-loop-again Inv-loop μ-loop
+loop-again c = search needs
+
+-- src/main.rt:36:1
+returns : tie.Need-returns Inv-loop μ-loop
+returns c = search needs
+
+pub say-bytes-spec : {M : Type 1} → statement M
+say-bytes-spec =
+    tie.close
+    (tie.spec
+    Inv-loop
+    μ-loop
+    loop-holds
+    shared-slice-read-say-byte
+    say-byte-requires
+    add-i
+    loop-less
+    loop-again
+    returns)

@@ -58,3 +58,24 @@ pub fn next_at(stream: &[u8], at: usize, table: Table) -> Step
         }
     }
 }
+
+// A table's stream and a place in it.
+pub struct Rows<'a> {
+    pub stream: &'a [u8],
+    pub at: usize,
+}
+
+pub fn new<'a>(stream: &'a [u8]) -> Rows<'a>
+    ensures { λ r. ⌜ (r .stream ≡ stream .entry) × (r .at ≡ 0) ⌝ }
+{
+    Rows { stream, at: 0 }
+}
+
+// The next cell: it moves the reader by one, the end and a refusal leave it. The answer has the place that the reader then has.
+pub fn next<'s, 'a>(r: &'s mut Rows<'a>, table: Table) -> Step
+    ensures { λ x. ⌜ (stepAs x ≡ nextOutcome table (now (now (r .entry) .stream)) (now (r .entry) .at)) × (now (r .exit) .stream ≡ now (r .entry) .stream) × (now (r .exit) .at ≡ x .at) ⌝ }
+{
+    let step = next_at(r.stream, r.at, table);
+    r.at = step.at;
+    step
+}

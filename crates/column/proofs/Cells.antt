@@ -11,7 +11,7 @@ use mir.Syntax.{w32}
 use mir.Val.{Fits}
 use Rattle.common.specs.Choice.{if_then_else_}
 use Rattle.common.specs.Answers.{Place, nowhere, column, Answer, gives, refused}
-use Rattle.refs.specs.Reference.{reference}
+use Rattle.stringpool.specs.Refs.{reference}
 use Rattle.column.specs.declared.column.ColumnType.{ColumnType}
 use Rattle.column.specs.declared.column.ColumnType.the-variants.{Int16, Int32, Str, Binary}
 use Rattle.column.specs.Bits.{soundType}

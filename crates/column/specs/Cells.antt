@@ -4,7 +4,7 @@ use mathlib.Core.Bool.{Bool, not, _&&_, _||_}
 use lib.IntN.{ℤ, pos, negℤ, natAbs, _+ℤ_, _-ℤ_}
 use Rattle.common.specs.Choice.{if_then_else_, _=?_, _<ℤ?_}
 use Rattle.common.specs.Answers.{Place, Answer, gives, refused, onGiven}
-use Rattle.refs.specs.Reference.{reference}
+use Rattle.stringpool.specs.Refs.{reference}
 use Rattle.column.specs.declared.column.ColumnType.{ColumnType}
 use Rattle.column.specs.declared.column.ColumnType.the-variants.{Int16, Int32, Str, Binary}
 

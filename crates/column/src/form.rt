@@ -1,8 +1,8 @@
 // How the cells of a column are stored: its type and the width of references, without maximum and marks.
 use crate::column::ColumnType;
 use common::Refusal;
-use refs::Reference;
-use refs::StringRef;
+use stringpool::Made;
+use stringpool::StringRef;
 use value::Cell;
 use value::ValueRef;
 ghost use mathlib.Core.Path.{_≡_};
@@ -137,7 +137,7 @@ fn reference_stored(cell: Cell, long: bool, row: usize, column: usize) -> Stored
         return Stored::Refused(Refusal::CellKind { row, column });
     };
     let made = StringRef::new(n);
-    let Reference::Made(reference) = made else {
+    let Made::Ref(reference) = made else {
         return Stored::Refused(Refusal::CellReferenceRange { row, column });
     };
     let number = reference.0 as u32;

@@ -6,15 +6,15 @@ use mathlib.Core.Bool.{Bool, true, false, not, _&&_, _||_}
 use mathlib.Core.List.{List, [], _∷_, _++_, map}
 use lib.ListN.{length, take, drop, getD, set, replicate, length-append, length-replicate, length-map, length-drop, length-set, List·getD-eq-default}
 use lib.Seq.{length-take-le}
-use lib.IntN.{ℤ, pos, negsuc}
+use lib.IntN.{ℤ, pos, negsuc, natAbs}
 use lib.Dec.{ltb, leb, eqb}
 use borrow.Author.Tests.{leb-true, leb-false, ltb-true, ltb-false, eqb-true, eqb-false, le-leb, lt-leb, lt-ltb, le-ltb}
 use Rattle.common.specs.Choice.{if_then_else_, _<?_, _≤?_, _=?_}
-use Rattle.common.specs.Answers.{Answer, gives, refused, nowhere, outcome, refusalOf}
+use Rattle.common.specs.Answers.{Answer, gives, refused, nowhere, onGiven, outcome, refusalOf}
 use Rattle.common.specs.Refusals.{refusedBy}
 use Rattle.common.specs.Lists.{_over_, total}
 use Rattle.stringpool.specs.Pool.{Entry, entry, Rooms, rooms, cut, texts, all, free, entryRoom, sound, onSound}
-use Rattle.stringpool.specs.Refs.{onReference, referenceTo, referenceAnswer}
+use Rattle.stringpool.specs.Refs.{reference, onReference, referenceTo}
 use Rattle.stringpool.specs.Show.{showAnswer, refcountAnswer, orEmpty}
 use Rattle.stringpool.specs.inner.Refs.{placeOf}
 use Rattle.stringpool.specs.inner.Sound.{smallB, allSmall, sumsB, fitsB, soundB, judgeOf}
@@ -136,19 +136,30 @@ pub on-reference : {A : Type 0} (r : ℤ) (more : ℕ → Answer A) → onRefere
 on-reference (negsuc n) more = refl
 on-reference {A} (pos n) more = go (ltb n 1) (ltb 16777215 n)
   where
-    go : (a b : Bool) → _≡_ {A = Answer A} (if a || b then refused 8 nowhere else more (n - 1))
-        (byPlace (if a then Outside else (if b then Outside else At (record { 0 = n - 1 }))) more)
+    go : (a b : Bool) → onGiven {B = A} (if a || b then refused 8 nowhere else gives (pos n)) (λ m. more (natAbs m - 1))
+        ≡ byPlace (if a then Outside else (if b then Outside else At (record { 0 = n - 1 }))) more
     go true b = refl
     go false true = refl
     go false false = refl
 
--- a reference that is made
-pub made-outside : (r : ℤ) → placeOf r ≡ Outside → refused 8 nowhere ≡ referenceAnswer r
-made-outside r e = sym (on-reference r (λ k. gives (referenceTo k)) ∙ ap (λ (x : Placed). byPlace x (λ k. gives (referenceTo k))) e)
+-- a reference number is that of its place
+reference-at : (r : ℤ) → reference nowhere r ≡ byPlace (placeOf r) (λ k. gives (referenceTo k))
+reference-at (negsuc n) = refl
+reference-at (pos n) = go (ltb n 1) (ltb 16777215 n) refl
+  where
+    go : (a b : Bool) → ltb n 1 ≡ a → (if a || b then refused 8 nowhere else gives (pos n))
+        ≡ byPlace (if a then Outside else (if b then Outside else At (record { 0 = n - 1 }))) (λ k. gives (referenceTo k))
+    go true b e = refl
+    go false true e = refl
+    go false false e = let q : n ≡ n - 1 + 1 = omega (arith, ltb-false n 1 e) in ap (λ (m : ℕ). gives (pos m)) q
 
-pub made-in : (r r' : ℤ) → r' ≡ r → (k : EntryPlace) → placeOf r ≡ At k → gives r' ≡ referenceAnswer r
+-- a reference that is made
+pub made-outside : (r : ℤ) → placeOf r ≡ Outside → refused 8 nowhere ≡ reference nowhere r
+made-outside r e = sym (reference-at r ∙ ap (λ (x : Placed). byPlace x (λ k. gives (referenceTo k))) e)
+
+pub made-in : (r r' : ℤ) → r' ≡ r → (k : EntryPlace) → placeOf r ≡ At k → gives r' ≡ reference nowhere r
 made-in r r' q k e =
-    ap gives (q ∙ number r k e) ∙ sym (on-reference r (λ j. gives (referenceTo j)) ∙ ap (λ (x : Placed). byPlace x (λ j. gives (referenceTo j))) e)
+    ap gives (q ∙ number r k e) ∙ sym (reference-at r ∙ ap (λ (x : Placed). byPlace x (λ j. gives (referenceTo j))) e)
   where
     out-in : Outside ≡ At k → ⊥
     out-in h = let y : _≡_ {A = ℕ} 0 1 = cc in omega arith
@@ -208,13 +219,12 @@ on-same r f g h = on-reference r f ∙ go (placeOf r) ∙ sym (on-reference r g)
     go (At k) = h (k .0)
 
 -- whatever is shown, the refusal is that of the reference
-refusal-same : {A : Type 0} (r : ℤ) (f : ℕ → A) → refusalOf (referenceAnswer r) ≡ refusalOf (onReference r (λ k. gives (f k)))
-refusal-same r f =
-    ap refusalOf (on-reference r (λ k. gives (referenceTo k))) ∙ go (placeOf r) ∙ ap refusalOf (sym (on-reference r (λ k. gives (f k))))
+refusal-same : {A : Type 0} (r : ℤ) (f : ℕ → A) → refusalOf (reference nowhere r) ≡ refusalOf (onReference r (λ k. gives (f k)))
+refusal-same r f = go (reference nowhere r)
   where
-    go : (x : Placed) → refusalOf (byPlace x (λ k. gives (referenceTo k))) ≡ refusalOf (byPlace x (λ k. gives (f k)))
-    go Outside = refl
-    go (At k) = refl
+    go : (x : Answer ℤ) → refusalOf x ≡ refusalOf (onGiven x (λ n. gives (f (natAbs n - 1))))
+    go (gives n) = refl
+    go (refused m at) = refl
 
 -- the answers of the calls; the number comes through a struct as r'
 module _ (p : StringPool) (w : Rooms) (r r' : ℤ) (back : r' ≡ r) where
@@ -233,9 +243,9 @@ module _ (p : StringPool) (w : Rooms) (r r' : ℤ) (back : r' ≡ r) where
       q ∙ ap (λ (z : ℤ). orEmpty (onReference z (λ k. gives (partAt (p .«num_strings») (w .lengths) (w .text) k)))) back
       ∙ ap orEmpty (on-same r _ _ (λ k. ap gives (part-same p w (judging p w j .all .fit) k)) ∙ answer-passed p w (onReference r (λ k. gives (Text k))) j)
 
-  pub refusal-passed : {u : ℕ} → judgeOf p w ≡ judged.Sound u → refusalOf (referenceAnswer r') ≡ refusalOf (showAnswer p w r)
+  pub refusal-passed : {u : ℕ} → judgeOf p w ≡ judged.Sound u → refusalOf (reference nowhere r') ≡ refusalOf (showAnswer p w r)
   refusal-passed j =
-      ap (λ (z : ℤ). refusalOf (referenceAnswer z)) back ∙ refusal-same r Text ∙ ap refusalOf (answer-passed p w (onReference r (λ k. gives (Text k))) j)
+      ap (λ (z : ℤ). refusalOf (reference nowhere z)) back ∙ refusal-same r Text ∙ ap refusalOf (answer-passed p w (onReference r (λ k. gives (Text k))) j)
 
   pub refusal-refused : (x : Refusal) → judgeOf p w ≡ judged.Refused x → refusedBy x ≡ refusalOf (showAnswer p w r)
   refusal-refused x j = ap refusalOf (answer-refused p w x (onReference r (λ k. gives (Text k))) j)
@@ -247,10 +257,10 @@ module _ (p : StringPool) (w : Rooms) (r r' : ℤ) (back : r' ≡ r) where
       ∙ on-same r _ _ (λ k. ap gives (count-same p w (judging p w j .all .fit) k)) ∙ answer-passed p w (onReference r (λ k. gives (Count k))) j
 
 -- the refusal of a reference
-pub refused-outside : (r : ℤ) → placeOf r ≡ Outside → refused 8 nowhere ≡ refusalOf (referenceAnswer r)
+pub refused-outside : (r : ℤ) → placeOf r ≡ Outside → refused 8 nowhere ≡ refusalOf (reference nowhere r)
 refused-outside r e = ap refusalOf (made-outside r e)
 
-pub refused-none : (r : ℤ) (k : EntryPlace) → placeOf r ≡ At k → gives tt ≡ refusalOf (referenceAnswer r)
+pub refused-none : (r : ℤ) (k : EntryPlace) → placeOf r ≡ At k → gives tt ≡ refusalOf (reference nowhere r)
 refused-none r k e = ap refusalOf (made-in r r refl k e)
 
 -- a reference that is out of range, past the end, or an entry's

@@ -2,7 +2,8 @@
 use common::Refusal;
 ghost use mathlib.Core.Path.{_≡_};
 ghost use Prim.Native.Nat.{_<_};
-ghost use Rattle.stringpool.specs.Refs.{madeAs, referenceAnswer};
+ghost use Rattle.stringpool.specs.Refs.{madeAs, reference};
+ghost use Rattle.common.specs.Answers.{nowhere};
 ghost use Rattle.stringpool.specs.inner.Refs.{placeOf, refOf};
 
 // A reference number, as a table's cell holds it.
@@ -29,7 +30,7 @@ impl StringRef {
 
     // The reference with a number from MIN to MAX.
     pub fn new(number: i32) -> Made
-        ensures { λ r. ⌜ madeAs r ≡ referenceAnswer number ⌝ }
+        ensures { λ r. ⌜ madeAs r ≡ reference nowhere number ⌝ }
     {
         let placed = StringRef(number).place();
         match placed {

@@ -10,9 +10,9 @@ ghost use mathlib.Core.Path.{_≡_};
 ghost use Prim.Native.Nat.{_≤_};
 ghost use lib.ListN.{length, take};
 ghost use Rattle.common.specs.Lists.{total};
-ghost use Rattle.common.specs.Answers.{gives, refusalOf};
+ghost use Rattle.common.specs.Answers.{gives, nowhere, refusalOf};
 ghost use Rattle.stringpool.specs.Pool.{rooms};
-ghost use Rattle.stringpool.specs.Refs.{onReference, referenceAnswer};
+ghost use Rattle.stringpool.specs.Refs.{onReference, reference};
 ghost use Rattle.stringpool.specs.Show.{showAnswer, refcountAnswer, orEmpty, showableAs, countedAs};
 ghost use Rattle.stringpool.specs.inner.Show.{partAt, countAt};
 
@@ -81,7 +81,7 @@ fn get_sound<'a>(n: usize, lengths: &[u32], text: &'a [u8], r: StringRef) -> &'a
 
 // Whether a reference number is in range.
 fn in_range(r: StringRef) -> Showable
-    ensures { λ a. ⌜ showableAs a ≡ refusalOf (referenceAnswer (r .0)) ⌝ }
+    ensures { λ a. ⌜ showableAs a ≡ refusalOf (reference nowhere (r .0)) ⌝ }
 {
     let placed = r.place();
     match placed {

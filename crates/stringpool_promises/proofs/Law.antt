@@ -6,11 +6,11 @@ use native.Mathlib.Omega.{arith}
 use mathlib.Core.Bool.{Bool, true, false, not, _&&_, _||_}
 use mathlib.Core.List.{List, [], _∷_, _++_, map}
 use lib.ListN.{length, take, drop, getD, set, length-set}
-use lib.IntN.{ℤ, pos, negsuc}
+use lib.IntN.{ℤ, pos, negsuc, natAbs}
 use lib.Dec.{leb, ltb, eqb, eqb·suc-suc}
 use borrow.Author.Tests.{leb-true, leb-false, eqb-false, le-leb, ltb-true, ltb-false, le-ltb, lt-ltb, ne-eqb}
 use Rattle.common.specs.Choice.{if_then_else_, _<?_, _≤?_, _=?_}
-use Rattle.common.specs.Answers.{Answer, gives, refused, Place, nowhere, outcome}
+use Rattle.common.specs.Answers.{Answer, gives, refused, Place, nowhere, onGiven, outcome}
 use Rattle.stringpool.specs.Pool.{Entry, entry, Rooms, entriesOf, putBack, texts, entryRoom, sound, onSound}
 use Rattle.stringpool.specs.Refs.{onReference}
 use Rattle.stringpool.specs.Take.{sameBytes, Chooser, takenAt, counting, takeAt, takeAnswer, takeOutcome}
@@ -107,10 +107,16 @@ neither false b e = (refl, e)
 abbrev lessenedAt : StringPool → Rooms → ℕ → List Entry
 lessenedAt p w k = set (entriesOf p w) k (lessened (getD (entriesOf p w) k none))
 
+-- a test that refuses, and then on with what was given
+test-given : {A B : Type 0} {y : A} {P : Type 0} (b : Bool) (n : ℕ) (at : Place) (v : B) (more : B → Answer A) → (b ≡ false → Case (more v) y P)
+    → Case (onGiven (if b then refused n at else gives v) more) y P
+test-given true n at v more f = no n at refl
+test-given false n at v more f = f refl
+
 pub drop-case : (p : StringPool) (w : Rooms) (r : ℤ) → Case (dropAnswer p w r) (p, putBack p w (lessenedAt p w (placeOf r))) (DidDrop p w r)
 drop-case p w (negsuc n) = on-sound p w (λ size s. no 8 nowhere refl)
 drop-case p w (pos n) =
-    on-sound p w (λ size s. test _ 8 nowhere (λ a. test _ 9 nowhere (λ b. test _ 10 nowhere (λ c.
+    on-sound p w (λ size s. test-given (ltb n 1 || ltb 16777215 n) 8 nowhere (pos n) (λ m. dropAt p w (natAbs m - 1)) (λ a. test _ 9 nowhere (λ b. test _ 10 nowhere (λ c.
     yes refl (record {
       size = size;
       fit = sound-fits p w s;
@@ -209,7 +215,7 @@ on-place k more h =
     let a : ltb (k + 1) 1 ≡ false = le-ltb (k + 1) 1 (omega arith) in
     let b : ltb 16777215 (k + 1) ≡ false = le-ltb 16777215 (k + 1) (omega arith) in
     let i : k + 1 - 1 ≡ k = omega arith in
-    ap₂ (λ (x y : Bool). if x || y then refused 8 nowhere else more (k + 1 - 1)) a b ∙ ap more i
+    ap₂ (λ (x y : Bool). onGiven (if x || y then refused 8 nowhere else gives (pos (k + 1))) (λ n. more (natAbs n - 1))) a b ∙ ap more i
 
 shows-at : (s : State) → SoundState s → (k : ℕ) → k < 16777215 → shows s (pos (k + 1)) ≡ getD (entries s) k none .text
 shows-at s h k b = ap orEmpty (on-sound-is s h (onReference (pos (k + 1)) (λ i. gives (getD (entries s) i none .text))) ∙ on-place k (λ i. gives (getD (entries s) i none .text)) b)
@@ -268,10 +274,10 @@ numbered (pos n) = go (ltb n 1) (ltb 16777215 n) refl refl
   where
     go : (a b : Bool) → ltb n 1 ≡ a → ltb 16777215 n ≡ b → Numbered (pos n)
     go true b f g =
-        outside (λ more. ap (λ (x : Bool). if x || ltb 16777215 n then refused 8 nowhere else more (n - 1)) f)
+        outside (λ more. ap (λ (x : Bool). onGiven (if x || ltb 16777215 n then refused 8 nowhere else gives (pos n)) (λ m. more (natAbs m - 1))) f)
         (λ m h. ne-eqb (m + 1) n (λ i. omega (arith, ltb-true n 1 f, i)))
     go false true f g =
-        outside (λ more. ap₂ (λ (x y : Bool). if x || y then refused 8 nowhere else more (n - 1)) f g)
+        outside (λ more. ap₂ (λ (x y : Bool). onGiven (if x || y then refused 8 nowhere else gives (pos n)) (λ m. more (natAbs m - 1))) f g)
         (λ m h. ne-eqb (m + 1) n (λ i. omega (arith, ltb-true 16777215 n g, i, h)))
     go false false f g =
         let a : 1 ≤ n = ltb-false n 1 f in

@@ -1,7 +1,7 @@
 // The value check at every edge of range, maximum and width.
 use crate::show;
 use column::Column;
-use refs::StringRef;
+use stringpool::StringRef;
 use value::ValueRef;
 
 fn int(x: Column, n: i32) {

@@ -1,5 +1,5 @@
 // What a cell of a table holds: `ValueRef` on reading, and a cell as it is handed over for writing.
-use refs::StringRef;
+use stringpool::StringRef;
 ghost use mathlib.Core.Path.{_≡_};
 ghost use Rattle.value.specs.Kinds.{kindOf, numberOf};
 ghost use Rattle.value.specs.inner.Handed.{cellOf};

@@ -409,35 +409,38 @@ fn short_wide() {
     write(load(b"a 4-byte length of 1", fresh(), &pool, b"A"));
 }
 
+// Five entries of two bytes, and two stray bytes.
+const SEVERAL: [u8; 26] = [
+    0,
+    0,
+    0,
+    0,
+    2,
+    0,
+    1,
+    0,
+    2,
+    0,
+    1,
+    0,
+    2,
+    0,
+    1,
+    0,
+    2,
+    0,
+    1,
+    0,
+    2,
+    0,
+    1,
+    0,
+    9,
+    9,
+];
+
 fn several_ways() {
-    let pool = [
-        0u8,
-        0,
-        0,
-        0,
-        2,
-        0,
-        1,
-        0,
-        2,
-        0,
-        1,
-        0,
-        2,
-        0,
-        1,
-        0,
-        2,
-        0,
-        1,
-        0,
-        2,
-        0,
-        1,
-        0,
-        9,
-        9,
-    ];
+    let pool = SEVERAL;
     load(b"3 bytes, no data", fresh(), &pool[0..3], b"");
     load(b"five entries, a cut one, no data", fresh(), &pool, b"");
     load(b"five entries, no data", fresh(), &pool[0..24], b"");

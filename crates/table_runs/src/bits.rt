@@ -147,7 +147,7 @@ fn written() {
     show::line();
 }
 
-pub fn run() {
+pub(crate) fn run() {
     show::text(b"bits\n");
     read(0x2900);
     read(0x404);

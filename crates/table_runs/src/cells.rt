@@ -64,7 +64,7 @@ fn binary() {
     put(0x900, false, 4, 1);
 }
 
-pub fn run() {
+pub(crate) fn run() {
     int16();
     int32();
     show::text(b"Str, short\n");

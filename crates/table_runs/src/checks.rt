@@ -67,7 +67,7 @@ fn others() {
     show::line();
 }
 
-pub fn run() {
+pub(crate) fn run() {
     show::text(b"value check\n");
     integers();
     texts();

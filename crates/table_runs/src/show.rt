@@ -13,11 +13,11 @@ use table::Laid;
 use table::TableMade;
 use value::ValueRef;
 
-pub fn text(s: &[u8]) {
+pub(crate) fn text(s: &[u8]) {
     io::write_all(STDOUT_FILENO, s);
 }
 
-pub fn line() {
+pub(crate) fn line() {
     text(b"\n");
 }
 
@@ -26,7 +26,7 @@ fn decimal(n: u64) {
     io::print_decimal(STDOUT_FILENO, n);
 }
 
-pub fn signed(n: i32) {
+pub(crate) fn signed(n: i32) {
     if n < 0 {
         text(b" -");
         io::print_decimal(STDOUT_FILENO, (0 - n as i64) as u64);
@@ -35,7 +35,7 @@ pub fn signed(n: i32) {
     decimal(n as u64);
 }
 
-pub fn refusal(r: Refusal) {
+pub(crate) fn refusal(r: Refusal) {
     text(b" refused");
     decimal(r.number() as u64);
     let place = r.place();
@@ -53,14 +53,14 @@ pub fn refusal(r: Refusal) {
     }
 }
 
-pub fn counted(c: Counted) {
+pub(crate) fn counted(c: Counted) {
     match c {
         Counted::Count(n) => decimal(n as u64),
         Counted::Refused(r) => refusal(r),
     }
 }
 
-pub fn laid(m: TableMade) {
+pub(crate) fn laid(m: TableMade) {
     let answer = m.answer;
     match answer {
         Laid::Made => text(b" made"),
@@ -73,7 +73,7 @@ fn byte(b: u8) {
     io::print_hex(STDOUT_FILENO, b as u64, 2);
 }
 
-pub fn bytes(s: &[u8]) {
+pub(crate) fn bytes(s: &[u8]) {
     text(b" |");
     for i in 0..s.len() {
         byte(s[i]);
@@ -87,7 +87,7 @@ fn cell(kind: u8, number: i32) {
     text(b")");
 }
 
-pub fn cells(kinds: &[u8], numbers: &[i32]) {
+pub(crate) fn cells(kinds: &[u8], numbers: &[i32]) {
     if kinds.len() != numbers.len() {
         return;
     }
@@ -96,11 +96,11 @@ pub fn cells(kinds: &[u8], numbers: &[i32]) {
     }
 }
 
-pub fn value(v: ValueRef) {
+pub(crate) fn value(v: ValueRef) {
     cell(v.kind(), v.number());
 }
 
-pub fn cell_read(c: CellRead) {
+pub(crate) fn cell_read(c: CellRead) {
     match c {
         CellRead::Value(v) => value(v),
         CellRead::Refused(r) => refusal(r),
@@ -113,7 +113,7 @@ fn mark(on: bool, s: &[u8]) {
     }
 }
 
-pub fn column(x: Column) {
+pub(crate) fn column(x: Column) {
     let coltype = x.coltype;
     match coltype {
         ColumnType::Int16 => text(b" Int16"),
@@ -129,21 +129,21 @@ pub fn column(x: Column) {
     mark(x.is_primary_key, b" key");
 }
 
-pub fn made(m: ColumnMade) {
+pub(crate) fn made(m: ColumnMade) {
     match m {
         ColumnMade::Made(x) => column(x),
         ColumnMade::Refused(r) => refusal(r),
     }
 }
 
-pub fn bitfield(b: Bitfield) {
+pub(crate) fn bitfield(b: Bitfield) {
     match b {
         Bitfield::Bits(n) => signed(n),
         Bitfield::Refused(r) => refusal(r),
     }
 }
 
-pub fn validity(v: Validity) {
+pub(crate) fn validity(v: Validity) {
     match v {
         Validity::Valid => text(b" valid"),
         Validity::Invalid => text(b" invalid"),

@@ -180,7 +180,7 @@ fn order() {
     show::line();
 }
 
-pub fn run() {
+pub(crate) fn run() {
     case_m();
     rows_of_m();
     places_of_m();

@@ -1,0 +1,18 @@
+use borrow.Author.Needs.{needs}
+use Rattle.value.proofs.pooled.created_of.Statement.{statement}
+use Rattle.value.proofs.pooled.created_of.Tie as tie
+
+enum-known-taken : tie.Need-enum-known-taken
+enum-known-taken c = search needs
+
+enum-known-taken-2 : tie.Need-enum-known-taken-2
+enum-known-taken-2 c = search needs
+
+returns : tie.Need-returns
+returns c = rw (c .before .taken .given .1)
+
+returns-2 : tie.Need-returns-2
+returns-2 c = rw (c .before .taken2 .given .1)
+
+pub created-of-spec : {M : Type 1} → statement M
+created-of-spec = tie.close (tie.spec enum-known-taken enum-known-taken-2 returns returns-2)

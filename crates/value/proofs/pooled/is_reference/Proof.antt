@@ -1,0 +1,15 @@
+use mathlib.Core.Path.{ap}
+use Prim.Native.Nat.{ℕ}
+use Rattle.common.specs.Choice.{_=?_}
+use borrow.Author.Needs.{needs}
+use Rattle.value.proofs.pooled.is_reference.Statement.{statement}
+use Rattle.value.proofs.pooled.is_reference.Tie as tie
+
+kind-requires : tie.Need-kind-requires
+kind-requires c κs = search needs
+
+returns : tie.Need-returns
+returns c = ap (λ (k : ℕ). k =? 2) (c .kind .ensures)
+
+pub is-reference-spec : {M : Type 1} → statement M
+is-reference-spec = tie.close (tie.spec kind-requires returns)

@@ -1,0 +1,257 @@
+-- Laws of the entries that are cut out of rooms and put back.
+use mathlib.Core.Path.{_≡_, refl, sym, ap, ap₂, _∙_}
+use Prim.Native.Nat.{ℕ, zero, suc, _+_, _-_, _≤_, _<_, max}
+use native.Mathlib.Nat.{zero-add, le-of-suc-le-suc, not-suc-le-zero}
+use native.Mathlib.Numerals.{add-one}
+use native.Mathlib.Omega.{arith}
+use mathlib.Core.List.{List, [], _∷_, _++_, map, append-assoc, append-nil}
+use lib.ListN.{length, take, drop, getD, set, replicate, length-append, length-drop, length-set, take-append-drop, length-take, length-map}
+use lib.Seq.{take-add, drop-drop, set-append-left, length-take-le, set-getD, getD-take, take-take, take-all, set-split, take-length, paste}
+use Rattle.common.specs.Lists.{total}
+use Rattle.stringpool.specs.inner.Splice.{splice}
+use Rattle.stringpool.specs.inner.Entries.{Entry, Rooms, rooms, Fit, cut, entriesOf, texts, lengthsOf, countsOf, putBack}
+use Rattle.stringpool.specs.inner.Drop.{none}
+use Rattle.stringpool.proofs.Splice.{front, length-front}
+use Rattle.common.proofs.Sums.{total-in}
+
+-- a constructor's argument out of an equation of lengths
+same : {m n : ℕ} → suc m ≡ suc n → m ≡ n
+same e = omega arith
+
+pub length-cut : (ls cs ts : List ℕ) → length ls ≡ length cs → length (cut ls cs ts) ≡ length ls
+length-cut [] cs ts h = refl
+length-cut (l ∷ ls) [] ts h = absurd (zs h)
+  where
+    zs : {n : ℕ} → suc n ≡ 0 → ⊥
+    zs e = omega arith
+length-cut (l ∷ ls) (c ∷ cs) ts h = ap suc (length-cut ls cs (drop l ts) (same h))
+
+pub counts-cut : (ls cs ts : List ℕ) → length ls ≡ length cs → countsOf (cut ls cs ts) ≡ cs
+counts-cut [] [] ts h = refl
+counts-cut [] (c ∷ cs) ts h = absurd (omega arith)
+counts-cut (l ∷ ls) [] ts h = absurd (omega arith)
+counts-cut (l ∷ ls) (c ∷ cs) ts h = ap (λ (x : List ℕ). c ∷ x) (counts-cut ls cs (drop l ts) (same h))
+
+pub lengths-cut : (ls cs ts : List ℕ) → length ls ≡ length cs → total ls ≤ length ts → lengthsOf (cut ls cs ts) ≡ ls
+lengths-cut [] cs ts h room = refl
+lengths-cut (l ∷ ls) [] ts h room = absurd (omega arith)
+lengths-cut (l ∷ ls) (c ∷ cs) ts h room =
+    ap₂ (λ (k : ℕ) (x : List ℕ). k ∷ x) (length-take-le l ts (omega arith))
+    (lengths-cut ls cs (drop l ts) (same h) (simp length-drop (omega arith)))
+
+pub texts-cut : (ls cs ts : List ℕ) → length ls ≡ length cs → texts (cut ls cs ts) ≡ take (total ls) ts
+texts-cut [] cs ts h = refl
+texts-cut (l ∷ ls) [] ts h = absurd (omega arith)
+texts-cut (l ∷ ls) (c ∷ cs) ts h = ap (λ (x : List ℕ). take l ts ++ x) (texts-cut ls cs (drop l ts) (same h)) ∙ sym (take-add l (total ls) ts)
+
+-- the entry at k
+pub getD-cut : (ls cs ts : List ℕ) (k : ℕ) → length ls ≡ length cs → k < length ls
+    → getD (cut ls cs ts) k none ≡ record { text = take (getD ls k 0) (drop (total (take k ls)) ts); count = getD cs k 0 }
+getD-cut [] cs ts k h hk = absurd (not-suc-le-zero hk)
+getD-cut (l ∷ ls) [] ts k h hk = absurd (omega arith)
+getD-cut (l ∷ ls) (c ∷ cs) ts zero h hk = refl
+getD-cut (l ∷ ls) (c ∷ cs) ts (suc k) h hk =
+    getD-cut ls cs (drop l ts) k (same h) (le-of-suc-le-suc hk)
+    ∙ ap (λ (t : List ℕ). record { text = take (getD ls k 0) t; count = getD cs k 0 }) (drop-drop (total (take k ls)) l ts)
+
+-- the texts with one entry replaced
+pub texts-set : (ls cs ts : List ℕ) (k : ℕ) (e : Entry) → length ls ≡ length cs → k < length ls
+    → texts (set (cut ls cs ts) k e) ≡ front ts (total (take k ls)) (getD ls k 0) (total ls) (e .text)
+texts-set [] cs ts k e h hk = absurd (not-suc-le-zero hk)
+texts-set (l ∷ ls) [] ts k e h hk = absurd (omega arith)
+texts-set (l ∷ ls) (c ∷ cs) ts zero e h hk =
+    let f : total ls ≡ l + total ls - (0 + l) = omega arith in
+    let g : l ≡ 0 + l = omega arith in
+    ap (λ (x : List ℕ). e .text ++ x) (texts-cut ls cs (drop l ts) (same h))
+    ∙ ap₂ (λ (i j : ℕ). e .text ++ take i (drop j ts)) f g
+texts-set (l ∷ ls) (c ∷ cs) ts (suc k) e h hk =
+    let s : ℕ = total (take k ls) in
+    let o : ℕ = getD ls k 0 in
+    let u : ℕ = total ls in
+    let f : u - (s + o) ≡ l + u - (l + s + o) = omega arith in
+    let g : l + (s + o) ≡ l + s + o = omega arith in
+    ap (λ (x : List ℕ). take l ts ++ x) (texts-set ls cs (drop l ts) k e (same h) (le-of-suc-le-suc hk))
+    ∙ sym (append-assoc (take l ts) (take s (drop l ts) ++ e .text) (take (u - (s + o)) (drop (s + o) (drop l ts))))
+    ∙ ap (λ (x : List ℕ). x ++ take (u - (s + o)) (drop (s + o) (drop l ts))) (sym (append-assoc (take l ts) (take s (drop l ts)) (e .text)))
+    ∙ ap₂ (λ (x y : List ℕ). x ++ e .text ++ take (u - (s + o)) y) (sym (take-add l s ts)) (drop-drop (s + o) l ts)
+    ∙ ap₂ (λ (i j : ℕ). take (l + s) ts ++ e .text ++ take i (drop j ts)) f g
+
+-- a value changes under `map`
+pub map-set : {A : Type 0} {B : Type 0} (f : A → B) (l : List A) (i : ℕ) (a : A) → map f (set l i a) ≡ set (map f l) i (f a)
+map-set f [] i a = refl
+map-set f (x ∷ l) zero a = refl
+map-set {B = B} f (x ∷ l) (suc i) a = ap (λ (r : List B). f x ∷ r) (map-set f l i a)
+
+pub rooms-eq : {ls ls' cs cs' ts ts' : List ℕ} → ls ≡ ls' → cs ≡ cs' → ts ≡ ts' → rooms ls cs ts ≡ rooms ls' cs' ts'
+rooms-eq p q r = λ i. record { lengths = p i; counts = q i; text = r i }
+
+put-set : (n : ℕ) (l : List ℕ) (k v : ℕ) → n ≤ length l → k < n → set (take n l) k v ++ drop n l ≡ set l k v
+put-set n l k v h hk =
+    let hk' : k < length (take n l) = simp length-take-le (omega arith) in
+    sym (set-append-left (take n l) (drop n l) k v hk') ∙ ap (λ (x : List ℕ). set x k v) (take-append-drop n l)
+
+module _ (n : ℕ) (w : Rooms) (fit : Fit n w) where
+  pub both : length (take n (w .lengths)) ≡ length (take n (w .counts))
+  both = length-take-le n (w .lengths) (fit .lengths) ∙ sym (length-take-le n (w .counts) (fit .counts))
+
+  pub length-entries : length (entriesOf n w) ≡ n
+  length-entries = length-cut (take n (w .lengths)) (take n (w .counts)) (w .text) both ∙ length-take-le n (w .lengths) (fit .lengths)
+
+-- The rooms with one entry replaced: one store to the lengths, one to the counts, and the text spliced.
+module _ (n : ℕ) (w : Rooms) (fit : Fit n w) (k : ℕ) (hk : k < n) where
+  pub entry-at : getD (entriesOf n w) k none
+      ≡ record { text = take (getD (w .lengths) k 0) (drop (total (take k (w .lengths))) (w .text)); count = getD (w .counts) k 0 }
+  entry-at =
+      let hl : k < length (take n (w .lengths)) = omega (arith, length-take-le n (w .lengths) (fit .lengths)) in
+      getD-cut (take n (w .lengths)) (take n (w .counts)) (w .text) k (both n w fit) hl
+      ∙ rw (getD-take n (w .lengths) k 0 hk, getD-take n (w .counts) k 0 hk, take-take k n (w .lengths) (omega arith))
+
+  pub texts-at : (e : Entry) → texts (set (entriesOf n w) k e)
+      ≡ front (w .text) (total (take k (w .lengths))) (getD (w .lengths) k 0) (total (take n (w .lengths))) (e .text)
+  texts-at e =
+      let hl : k < length (take n (w .lengths)) = omega (arith, length-take-le n (w .lengths) (fit .lengths)) in
+      texts-set (take n (w .lengths)) (take n (w .counts)) (w .text) k e (both n w fit) hl
+      ∙ rw (getD-take n (w .lengths) k 0 hk, take-take k n (w .lengths) (omega arith))
+
+  pub length-texts-at : (e : Entry) → length (texts (set (entriesOf n w) k e))
+      ≡ total (take n (w .lengths)) - getD (w .lengths) k 0 + length (e .text)
+  length-texts-at e =
+      ap length (texts-at e)
+      ∙ length-front (w .text) (total (take k (w .lengths))) (getD (w .lengths) k 0) (total (take n (w .lengths))) (e .text)
+      (total-in (w .lengths) k n hk (fit .lengths)) (fit .text)
+
+  pub put-one : (e : Entry)
+      → total (take n (w .lengths)) - getD (w .lengths) k 0 + length (e .text) ≤ length (w .text)
+      → putBack n w (set (entriesOf n w) k e)
+      ≡ rooms (set (w .lengths) k (length (e .text))) (set (w .counts) k (e .count))
+      (splice (w .text) (total (take k (w .lengths))) (getD (w .lengths) k 0) (total (take n (w .lengths))) (e .text))
+  unfolding splice
+  put-one e room =
+      let es : List Entry = entriesOf n w in
+      let s : ℕ = total (take k (w .lengths)) in
+      let o : ℕ = getD (w .lengths) k 0 in
+      let u : ℕ = total (take n (w .lengths)) in
+      let inside : s + o ≤ u = total-in (w .lengths) k n hk (fit .lengths) in
+      let len : length (set es k e) ≡ n = length-set es k e ∙ length-entries n w fit in
+      let tl : length (texts (set es k e)) ≡ u - o + length (e .text) = length-texts-at e in
+      let z : u - length (texts (set es k e)) ≡ o - length (e .text) = omega arith in
+      rooms-eq
+      (ap₂ (λ (x : List ℕ) (i : ℕ). x ++ drop i (w .lengths))
+      (map-set (λ (x : Entry). length (x .text)) es k e
+      ∙ ap (λ (x : List ℕ). set x k (length (e .text))) (lengths-cut (take n (w .lengths)) (take n (w .counts)) (w .text) (both n w fit) (fit .text)))
+      len
+      ∙ put-set n (w .lengths) k (length (e .text)) (fit .lengths) hk)
+      (ap₂ (λ (x : List ℕ) (i : ℕ). x ++ drop i (w .counts))
+      (map-set (λ (x : Entry). x .count) es k e
+      ∙ ap (λ (x : List ℕ). set x k (e .count)) (counts-cut (take n (w .lengths)) (take n (w .counts)) (w .text) (both n w fit)))
+      len
+      ∙ put-set n (w .counts) k (e .count) (fit .counts) hk)
+      (ap₂ (λ (i : ℕ) (j : ℕ). texts (set es k e) ++ replicate i 0 ++ drop (max u j) (w .text)) z tl
+      ∙ ap (λ (x : List ℕ). x ++ replicate (o - length (e .text)) 0 ++ drop (max u (u - o + length (e .text))) (w .text)) (texts-at e))
+
+  -- a splice of the bytes that are there changes nothing
+  pub splice-same :
+      splice (w .text) (total (take k (w .lengths))) (getD (w .lengths) k 0) (total (take n (w .lengths)))
+      (take (getD (w .lengths) k 0) (drop (total (take k (w .lengths))) (w .text)))
+      ≡ w .text
+  unfolding splice
+  splice-same =
+      let ts : List ℕ = w .text in
+      let s : ℕ = total (take k (w .lengths)) in
+      let o : ℕ = getD (w .lengths) k 0 in
+      let u : ℕ = total (take n (w .lengths)) in
+      let inside : s + o ≤ u = total-in (w .lengths) k n hk (fit .lengths) in
+      let lt : length (take o (drop s ts)) ≡ o = length-take-le o (drop s ts) (simp length-drop (omega (arith, fit .text))) in
+      let z : o - length (take o (drop s ts)) ≡ 0 = omega arith in
+      let m : max u (u - o + length (take o (drop s ts))) ≡ u = omega arith in
+      let r : s + o + (u - (s + o)) ≡ u = omega arith in
+      ap₂ (λ (i j : ℕ). take s ts ++ take o (drop s ts) ++ take (u - (s + o)) (drop (s + o) ts) ++ replicate i 0 ++ drop j ts) z m
+      ∙ ap (λ (x : List ℕ). x ++ drop u ts) (append-nil (take s ts ++ take o (drop s ts) ++ take (u - (s + o)) (drop (s + o) ts)))
+      ∙ ap (λ (x : List ℕ). x ++ take (u - (s + o)) (drop (s + o) ts) ++ drop u ts) (sym (take-add s o ts))
+      ∙ ap (λ (x : List ℕ). x ++ drop u ts) (sym (take-add (s + o) (u - (s + o)) ts) ∙ ap (λ (i : ℕ). take i ts) r)
+      ∙ take-append-drop u ts
+
+  -- an entry's text is as long as its length says
+  pub length-at : length (getD (entriesOf n w) k none .text) ≡ getD (w .lengths) k 0
+  length-at =
+      let s : ℕ = total (take k (w .lengths)) in
+      let o : ℕ = getD (w .lengths) k 0 in
+      let inside : s + o ≤ total (take n (w .lengths)) = total-in (w .lengths) k n hk (fit .lengths) in
+      ap (λ (x : Entry). length (x .text)) entry-at ∙ length-take-le o (drop s (w .text)) (simp length-drop (omega (arith, fit .text)))
+
+  -- another count does not change how long the texts are
+  pub length-same : (c : ℕ) → length (texts (set (entriesOf n w) k (record { text = getD (entriesOf n w) k none .text; count = c })))
+      ≡ total (take n (w .lengths))
+  length-same c =
+      omega (
+        arith,
+        length-at,
+        total-in (w .lengths) k n hk (fit .lengths),
+        length-texts-at (record { text = getD (entriesOf n w) k none .text; count = c }),
+      )
+
+  -- the rooms with one entry's count changed: one store to the counts
+  pub put-count : (c : ℕ)
+      → putBack n w (set (entriesOf n w) k (record { text = getD (entriesOf n w) k none .text; count = c }))
+      ≡ rooms (w .lengths) (set (w .counts) k c) (w .text)
+  put-count c =
+      let s : ℕ = total (take k (w .lengths)) in
+      let o : ℕ = getD (w .lengths) k 0 in
+      let t : List ℕ = take o (drop s (w .text)) in
+      let inside : s + o ≤ total (take n (w .lengths)) = total-in (w .lengths) k n hk (fit .lengths) in
+      let lt : length t ≡ o = length-take-le o (drop s (w .text)) (simp length-drop (omega (arith, fit .text))) in
+      ap (λ (x : List ℕ). putBack n w (set (entriesOf n w) k (record { text = x; count = c }))) (ap (λ (x : Entry). x .text) entry-at)
+      ∙ put-one (record { text = t; count = c }) (omega (arith, fit .text))
+      ∙ rooms-eq (ap (set (w .lengths) k) lt ∙ set-getD (w .lengths) k 0) refl splice-same
+
+-- ---- an entry added at the end
+
+pub texts-append : (xs ys : List Entry) → texts (xs ++ ys) ≡ texts xs ++ texts ys
+texts-append [] ys = refl
+texts-append (x ∷ xs) ys = ap (λ (r : List ℕ). x .text ++ r) (texts-append xs ys) ∙ sym (append-assoc (x .text) (texts xs) (texts ys))
+
+map-snoc : {A : Type 0} {B : Type 0} (f : A → B) (l : List A) (a : A) → map f (l ++ (a ∷ [])) ≡ map f l ++ (f a ∷ [])
+map-snoc f [] a = refl
+map-snoc {B = B} f (x ∷ l) a = ap (λ (r : List B). f x ∷ r) (map-snoc f l a)
+
+put-snoc : (n : ℕ) (l : List ℕ) (v : ℕ) → n < length l → take n l ++ (v ∷ []) ++ drop (suc n) l ≡ set l n v
+put-snoc n l v h = append-assoc (take n l) (v ∷ []) (drop (suc n) l) ∙ sym (set-split l n v h)
+
+module _ (n : ℕ) (w : Rooms) (fit : Fit n w) (e : Entry) where
+  pub texts-added : texts (entriesOf n w ++ (e ∷ [])) ≡ take (total (take n (w .lengths))) (w .text) ++ e .text
+  texts-added =
+      texts-append (entriesOf n w) (e ∷ [])
+      ∙ ap₂ (λ (x y : List ℕ). x ++ y) (texts-cut (take n (w .lengths)) (take n (w .counts)) (w .text) (both n w fit)) (append-nil (e .text))
+
+  pub length-texts-added : length (texts (entriesOf n w ++ (e ∷ []))) ≡ total (take n (w .lengths)) + length (e .text)
+  length-texts-added =
+      ap length texts-added ∙ length-append (take (total (take n (w .lengths))) (w .text)) (e .text)
+      ∙ ap (λ (i : ℕ). i + length (e .text)) (length-take-le (total (take n (w .lengths))) (w .text) (fit .text))
+
+  -- the rooms with an entry added: one store to the lengths, one to the counts, and the text written after the used part
+  pub put-added : n < length (w .lengths) → n < length (w .counts)
+      → putBack n w (entriesOf n w ++ (e ∷ []))
+      ≡ rooms (set (w .lengths) n (length (e .text))) (set (w .counts) n (e .count))
+      (paste (w .text) (total (take n (w .lengths))) (e .text) (length (e .text)))
+  put-added hl hc =
+      let es : List Entry = entriesOf n w in
+      let u : ℕ = total (take n (w .lengths)) in
+      let t : List ℕ = e .text in
+      let all : List ℕ = texts (es ++ (e ∷ [])) in
+      let len : length (es ++ (e ∷ [])) ≡ suc n = length-append es (e ∷ []) ∙ ap (λ (i : ℕ). i + 1) (length-entries n w fit) ∙ add-one n in
+      let z : u - length all ≡ 0 = omega (arith, length-texts-added) in
+      let m : max u (length all) ≡ u + length t = omega (arith, length-texts-added) in
+      rooms-eq
+      (ap₂ (λ (x : List ℕ) (i : ℕ). x ++ drop i (w .lengths))
+      (map-snoc (λ (x : Entry). length (x .text)) es e
+      ∙ ap (λ (x : List ℕ). x ++ (length t ∷ [])) (lengths-cut (take n (w .lengths)) (take n (w .counts)) (w .text) (both n w fit) (fit .text)))
+      len
+      ∙ put-snoc n (w .lengths) (length t) hl)
+      (ap₂ (λ (x : List ℕ) (i : ℕ). x ++ drop i (w .counts))
+      (map-snoc (λ (x : Entry). x .count) es e
+      ∙ ap (λ (x : List ℕ). x ++ (e .count ∷ [])) (counts-cut (take n (w .lengths)) (take n (w .counts)) (w .text) (both n w fit)))
+      len
+      ∙ put-snoc n (w .counts) (e .count) hc)
+      (ap₂ (λ (i j : ℕ). all ++ replicate i 0 ++ drop j (w .text)) z m
+      ∙ ap (λ (x : List ℕ). x ++ drop (u + length t) (w .text)) (append-nil all ∙ texts-added)
+      ∙ ap (λ (x : List ℕ). take u (w .text) ++ x ++ drop (u + length t) (w .text)) (sym (take-length t)))

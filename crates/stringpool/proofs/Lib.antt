@@ -1,0 +1,11 @@
+pub mod Drop
+pub mod Entries
+pub mod House
+pub mod Loads
+pub mod Show
+pub mod Signed
+pub mod Sound
+pub mod Splice
+pub mod Streams
+pub mod Sums
+pub mod Take

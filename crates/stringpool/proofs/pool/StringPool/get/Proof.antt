@@ -1,0 +1,54 @@
+use mathlib.Core.Path.{_≡_, refl, sym, ap, _∙_}
+use lib.IntN.{ℤ}
+use mir.Syntax.{w32}
+use mir.Val.{toZ, ofZ}
+use mir.ValLaws.{toZ-ofZ}
+use Rattle.stringpool.specs.Pool.{rooms}
+use Rattle.stringpool.proofs.Sound.{sound-fit, judged-sound}
+use Rattle.stringpool.proofs.Show.{show-judged}
+use Rattle.stringpool.proofs.House.{get-refused, get-shown, refusal-is, count-refused, count-shown}
+use borrow.Author.Needs.{needs}
+use Rattle.stringpool.proofs.pool.StringPool.get.Statement.{statement}
+use Rattle.stringpool.proofs.pool.StringPool.get.Tie as tie
+
+judge-requires : tie.Need-judge-requires
+judge-requires c κs = search needs
+
+enum-told : tie.Need-enum-told
+enum-told c = search needs
+
+slice-aggregate-result : tie.Need-slice-aggregate-result
+slice-aggregate-result c = search needs
+
+enum-told-2 : tie.Need-enum-told-2
+enum-told-2 c = search needs
+
+get-sound-requires : tie.Need-get-sound-requires
+get-sound-requires c κs =
+    let s = c .before .before .before .before .before .before in
+    let f = sound-fit (s .args .self) (rooms (s .args .lengths .now) (s .args .counts .now) (s .args .text .now)) (judged-sound (s .args .self) (rooms (s .args .lengths .now) (s .args .counts .now) (s .args .text .now)) (sym (c .before .before .judge .ensures) ∙ c .enum-told2 .given .1)) in
+    (f .fit .lengths, f .fit .text)
+
+returns : tie.Need-returns
+returns c =
+    let s = c .before .before .before .before .before .before .before in
+    get-refused (s .args .self) (rooms (s .args .lengths .now) (s .args .counts .now) (s .args .text .now)) _ (s .args .number) refl _ (sym (c .before .before .before .judge .ensures) ∙ c .before .enum-told .given .1)
+
+returns-2 : tie.Need-returns-2
+returns-2 c =
+    let s = c .before .before .before .before .before .before .before in
+    let z : ℤ = s .args .number in
+    let back : toZ w32 (ofZ w32 z) ≡ z = toZ-ofZ w32 z (search needs) in
+    get-shown (s .args .self) (rooms (s .args .lengths .now) (s .args .counts .now) (s .args .text .now)) _ z back (sym (c .before .before .before .judge .ensures) ∙ c .before .enum-told2 .given .1) _ (c .get-sound .ensures)
+
+pub get-spec : {M : Type 1} → statement M
+get-spec =
+    tie.close
+    (tie.spec
+    judge-requires
+    enum-told
+    slice-aggregate-result
+    enum-told-2
+    get-sound-requires
+    returns
+    returns-2)

@@ -1,0 +1,106 @@
+use mathlib.Core.Path.{_≡_, refl, sym, ap, ap₂, _∙_}
+use Prim.Native.Nat.{ℕ, _+_, _-_, _≤_, _<_}
+use native.Mathlib.Omega.{arith}
+use mathlib.Core.List.{List, []}
+use lib.ListN.{length, take, drop, getD}
+use Rattle.stringpool.specs.inner.Refs.{placeOf}
+use Rattle.common.specs.Lists.{total}
+use Rattle.stringpool.specs.inner.Entries.{Entry, rooms, entriesOf}
+use Rattle.stringpool.specs.inner.Drop.{judgeOf}
+use Rattle.stringpool.specs.inner.Show.{entryAt, shownBy, bothJudged, inRange, showRefusal, countedBy, partAt, countAt}
+use Rattle.stringpool.specs.declared.judge.Judged.{Judged}
+use Rattle.stringpool.specs.declared.refs.Placed.{Placed}
+use Rattle.common.proofs.Sums.{total-in, total-le}
+use Rattle.stringpool.proofs.Sound.{sound-fit, judged-sound}
+use Rattle.stringpool.proofs.Show.{entry-part, show-judged, part-outside, part-past, part-in, count-outside, count-past, count-in}
+use borrow.Author.Needs.{needs}
+use Rattle.stringpool.proofs.shows.get_sound.Statement.{statement}
+use Rattle.stringpool.proofs.shows.get_sound.Tie as tie
+
+place-requires : tie.Need-place-requires
+place-requires c κs = search needs
+
+enum-known-place : tie.Need-enum-known-place
+enum-known-place c = search needs
+
+enum-told : tie.Need-enum-told
+enum-told c = search needs
+
+slice-aggregate-result : tie.Need-slice-aggregate-result
+slice-aggregate-result c = search needs
+
+returns : tie.Need-returns
+returns c =
+    let s = c .before .before .before .before .before .before in
+    part-outside (s .args .n) (s .args .lengths .now) [] (s .args .text .now) (placeOf (s .args .r .0)) (sym (c .before .before .before .place .ensures) ∙ c .before .enum-told .given .1)
+
+slice-aggregate-result-2 : tie.Need-slice-aggregate-result-2
+slice-aggregate-result-2 c = search needs
+
+returns-2 : tie.Need-returns-2
+returns-2 c =
+    let s = c .before .before .before .before .before .before .before .before in
+    part-past (s .args .n) (s .args .lengths .now) [] (s .args .text .now) (placeOf (s .args .r .0)) _ (sym (c .before .before .before .before .before .place .ensures) ∙ c .before .before .before .place2 .given .1) (c .before .if1 .taken)
+
+start-of-requires : tie.Need-start-of-requires
+start-of-requires c κs =
+    let s = c .before .before .before .before .before .before .before in
+    let k : ℕ = c .before .before .place2 .given .0 .0 .0 in
+    omega (arith, s .pre, total-le (s .args .lengths .now) k (s .args .n) (omega arith))
+
+mul-end : tie.Need-mul-end
+mul-end c = search needs
+
+shared-slice-read-end : tie.Need-shared-slice-read-end
+shared-slice-read-end c = search needs
+
+cast-end : tie.Need-cast-end
+cast-end c = omega (arith, c .shared-slice-known3 .given (c .before .before .before .before .place2 .given .0 .0 .0))
+
+add-end : tie.Need-add-end
+add-end c =
+    let s = c .before .before .before .before .before .before .before .before .before in
+    let k : ℕ = c .before .before .before .before .place2 .given .0 .0 .0 in
+    omega (arith, s .pre, c .before .start-of .ensures, total-in (s .args .lengths .now) k (s .args .n) (c .before .before .if1 .left) (s .pre .0))
+
+sub-result : tie.Need-sub-result
+sub-result c = search needs
+
+part-result-start : tie.Need-part-result-start
+part-result-start c = search needs
+
+part-result-end : tie.Need-part-result-end
+part-result-end c =
+    let s = c .before .before .before .before .before .before .before .before .before in
+    let k : ℕ = c .before .before .before .before .place2 .given .0 .0 .0 in
+    omega (arith, s .pre, c .before .start-of .ensures, total-in (s .args .lengths .now) k (s .args .n) (c .before .before .if1 .left) (s .pre .0))
+
+returns-3 : tie.Need-returns-3
+returns-3 c =
+    let s = c .before .before .before .before .before .before .before .before .before .before in
+    let k : ℕ = c .before .before .before .before .before .place2 .given .0 .0 .0 in
+    let size : ℕ = getD (s .args .lengths .now) k 0 in
+    let e : c .before .before .start-of .result + size - c .before .before .start-of .result ≡ size = omega arith in
+    ap₂ (λ (i j : ℕ). take i (drop j (s .args .text .now))) e (c .before .before .start-of .ensures)
+    ∙ part-in (s .args .n) (s .args .lengths .now) [] (s .args .text .now) (placeOf (s .args .r .0)) _ (sym (c .before .before .before .before .before .before .before .place .ensures) ∙ c .before .before .before .before .before .place2 .given .1) (c .before .before .before .if1 .left)
+
+pub get-sound-spec : {M : Type 1} → statement M
+get-sound-spec =
+    tie.close
+    (tie.spec
+    place-requires
+    enum-known-place
+    enum-told
+    slice-aggregate-result
+    returns
+    slice-aggregate-result-2
+    returns-2
+    start-of-requires
+    mul-end
+    shared-slice-read-end
+    cast-end
+    add-end
+    sub-result
+    part-result-start
+    part-result-end
+    returns-3)

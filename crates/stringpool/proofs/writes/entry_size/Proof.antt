@@ -1,0 +1,21 @@
+use mathlib.Core.Path.{_≡_, refl, sym, ap, ap₂, _∙_}
+use Prim.Native.Nat.{ℕ, suc, _+_, _-_, _*_, _≤_, _<_}
+use native.Mathlib.Omega.{arith}
+use mathlib.Core.List.{List, _++_}
+use lib.ListN.{length, take, drop, getD, set, length-drop, length-append}
+use Rattle.stringpool.proofs.Streams.{length-narrow, length-wide}
+use borrow.Author.Needs.{needs}
+use Rattle.stringpool.proofs.writes.entry_size.Statement.{statement}
+use Rattle.stringpool.proofs.writes.entry_size.Tie as tie
+
+wide-requires : tie.Need-wide-requires
+wide-requires c κs = search needs
+
+returns : tie.Need-returns
+returns c = (sym (length-wide (c .before .before .args .size) (c .before .before .args .count) (sym (c .before .wide .ensures) ∙ c .if1 .taken)), omega arith)
+
+returns-2 : tie.Need-returns-2
+returns-2 c = (sym (length-narrow (c .before .before .args .size) (c .before .before .args .count) (sym (c .before .wide .ensures) ∙ c .if1 .left)), omega arith)
+
+pub entry-size-spec : {M : Type 1} → statement M
+entry-size-spec = tie.close (tie.spec wide-requires returns returns-2)

@@ -1,0 +1,25 @@
+use mathlib.Core.Path.{_≡_, refl, sym, ap, ap₂, _∙_}
+use Prim.Native.Nat.{ℕ, suc, _+_, _-_, _*_, _≤_, _<_}
+use native.Mathlib.Omega.{arith}
+use mathlib.Core.List.{List, _++_}
+use lib.ListN.{length, take, drop, getD, set, length-drop, length-append}
+use borrow.Author.Tests.{ne-eqb, eq-eqb}
+use mathlib.Core.Bool.{Bool, _&&_}
+use lib.Dec.{ltb}
+use Rattle.stringpool.specs.Write.{shortOf, wide, entryBytes}
+use Rattle.stringpool.specs.inner.Write.{entriesBytes}
+use borrow.Author.Needs.{needs}
+use Rattle.stringpool.proofs.writes.wide.Statement.{statement}
+use Rattle.stringpool.proofs.writes.wide.Tie as tie
+
+short-of-requires : tie.Need-short-of-requires
+short-of-requires c κs = search needs
+
+returns : tie.Need-returns
+returns c = ap (λ (b : Bool). b && ltb 0 (c .before .before .args .count)) (sym (ne-eqb (shortOf (c .before .before .args .size)) 0 (λ q. c .if1 .taken (c .before .short-of .ensures ∙ q))))
+
+returns-2 : tie.Need-returns-2
+returns-2 c = ap (λ (b : Bool). b && ltb 0 (c .before .before .args .count)) (sym (eq-eqb (shortOf (c .before .before .args .size)) 0 (sym (c .before .short-of .ensures) ∙ c .if1 .left)))
+
+pub wide-spec : {M : Type 1} → statement M
+wide-spec = tie.close (tie.spec short-of-requires returns returns-2)

@@ -1,0 +1,35 @@
+-- What a drop answers and what it leaves.
+use Prim.Native.Nat.{ℕ, _-_}
+use mathlib.Core.List.{List, []}
+use lib.ListN.{length, getD, set}
+use lib.IntN.{ℤ}
+use Rattle.common.specs.Choice.{if_then_else_, _≤?_, _=?_}
+use Rattle.common.specs.Answers.{Answer, gives, refused, nowhere, outcome}
+use Rattle.common.specs.Refusals.{refusedBy}
+use Rattle.stringpool.specs.Pool.{Entry, entry, Rooms, entriesOf, putBack, onSound}
+use Rattle.stringpool.specs.Refs.{onReference}
+use Rattle.stringpool.specs.declared.pool.StringPool.{StringPool}
+use Rattle.stringpool.specs.declared.drops.Dropped.{Dropped}
+use Rattle.stringpool.specs.declared.drops.Dropped.the-variants as dropped
+
+-- one reference less; at 0 the text goes
+abbrev pub lessened : Entry → Entry
+lessened e = if e .count ≤? 1 then entry [] 0 else entry (e .text) (e .count - 1)
+
+abbrev pub dropAt : StringPool → Rooms → ℕ → Answer (StringPool × Rooms)
+dropAt p w k =
+    let es = entriesOf p w in
+    let e = getD es k (entry [] 0) in
+    if length es ≤? k then refused 9 nowhere
+    else if e .count =? 0 then refused 10 nowhere
+    else gives (p, putBack p w (set es k (lessened e)))
+
+abbrev pub dropAnswer : StringPool → Rooms → ℤ → Answer (StringPool × Rooms)
+dropAnswer p w r = onSound p w (onReference r (dropAt p w))
+
+abbrev pub dropOutcome : StringPool → Rooms → ℤ → Answer StringPool × Rooms
+dropOutcome p w r = outcome w (dropAnswer p w r)
+
+abbrev pub droppedAs : Dropped → Answer StringPool
+droppedAs (dropped.Done p) = gives p
+droppedAs (dropped.Refused x) = refusedBy x

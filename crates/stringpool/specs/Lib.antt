@@ -1,0 +1,9 @@
+pub mod Drop
+pub mod Load
+pub mod Pages
+pub mod Pool
+pub mod Refs
+pub mod Show
+pub mod Take
+pub mod Write
+pub mod inner

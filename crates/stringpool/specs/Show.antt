@@ -1,0 +1,34 @@
+-- What showing a reference answers, and its count.
+use Prim.Native.Nat.{ℕ}
+use mathlib.Core.List.{List, []}
+use lib.ListN.{getD}
+use lib.IntN.{ℤ}
+use Rattle.common.specs.Answers.{Answer, gives, refused}
+use Rattle.common.specs.Refusals.{refusedBy}
+use Rattle.stringpool.specs.Pool.{Entry, entry, Rooms, entriesOf, onSound}
+use Rattle.stringpool.specs.Refs.{onReference}
+use Rattle.stringpool.specs.declared.pool.StringPool.{StringPool}
+use Rattle.stringpool.specs.declared.judge.Judged.{Judged}
+use Rattle.stringpool.specs.declared.shows.Counted.{Counted}
+use Rattle.stringpool.specs.declared.judge.Judged.the-variants as judged
+use Rattle.stringpool.specs.declared.shows.Counted.the-variants as counted
+
+-- past the last entry: no text, and count 0
+abbrev pub showAnswer : StringPool → Rooms → ℤ → Answer (List ℕ)
+showAnswer p w r = onSound p w (onReference r (λ k. gives (getD (entriesOf p w) k (entry [] 0) .text)))
+
+abbrev pub refcountAnswer : StringPool → Rooms → ℤ → Answer ℕ
+refcountAnswer p w r = onSound p w (onReference r (λ k. gives (getD (entriesOf p w) k (entry [] 0) .count)))
+
+-- what `get` hands out: after a refusal the empty part
+abbrev pub orEmpty : Answer (List ℕ) → List ℕ
+orEmpty (gives t) = t
+orEmpty (refused n at) = []
+
+abbrev pub judgedAs : Judged → Answer (Unit {0})
+judgedAs judged.Sound = gives tt
+judgedAs (judged.Refused x) = refusedBy x
+
+abbrev pub countedAs : Counted → Answer ℕ
+countedAs (counted.Is n) = gives n
+countedAs (counted.Refused x) = refusedBy x

@@ -1,0 +1,67 @@
+-- What a take answers and what it leaves.
+use Prim.Native.Nat.{ℕ, _+_}
+use mathlib.Core.Bool.{Bool, true, false, not, _&&_, _||_}
+use mathlib.Core.List.{List, [], _∷_, _++_}
+use lib.ListN.{length, getD, set}
+use lib.IntN.{ℤ, pos}
+use Rattle.common.specs.Choice.{if_then_else_, _<?_, _≤?_, _=?_}
+use Rattle.common.specs.Answers.{Answer, gives, refused, nowhere, outcome}
+use Rattle.common.specs.Refusals.{refusedBy}
+use Rattle.stringpool.specs.Pool.{Entry, entry, Rooms, entriesOf, texts, putBack, entryRoom, free, onSound}
+use Rattle.stringpool.specs.declared.pool.StringPool.{StringPool}
+use Rattle.stringpool.specs.declared.takes.Taken.{Taken}
+use Rattle.stringpool.specs.declared.takes.Taken.the-variants as taken
+use Rattle.common.specs.Sizes.{maxBytes, maxEntries}
+
+abbrev pub sameBytes : List ℕ → List ℕ → Bool
+sameBytes [] [] = true
+sameBytes [] (y ∷ ys) = false
+sameBytes (x ∷ xs) [] = false
+sameBytes (x ∷ xs) (y ∷ ys) = x =? y && sameBytes xs ys
+
+-- the same bytes, and a count below 65,535
+abbrev pub equal : List ℕ → Entry → Bool
+equal t e = sameBytes (e .text) t && e .count <? 65535
+
+-- the place of the first that passes; with none, the place after the last
+abbrev pub firstPlace : (Entry → Bool) → List Entry → ℕ
+firstPlace f [] = 0
+firstPlace f (e ∷ es) = if f e then 0 else firstPlace f es + 1
+
+-- a text and the entries give a place; that after the last is a new entry's
+abbrev pub Chooser : Type 0
+Chooser = List ℕ → List Entry → ℕ
+
+-- in entry order, the first entry that is free or equal
+abbrev pub firstFreeOrEqual : Chooser
+firstFreeOrEqual t es = firstPlace (λ (e : Entry). free e || equal t e) es
+
+abbrev pub increased : List ℕ → Entry → Entry
+increased t e = if free e then entry t 1 else entry (e .text) (e .count + 1)
+
+abbrev pub takenAt : List ℕ → ℕ → List Entry → List Entry
+takenAt t k es = if k <? length es then set es k (increased t (getD es k (entry [] 0))) else es ++ (entry t 1 ∷ [])
+
+abbrev pub counting : StringPool → ℕ → StringPool
+counting p n = record { «num_strings» = n; «long_string_refs» = p .«long_string_refs»; codepage = p .codepage }
+
+abbrev pub takeAt : StringPool → Rooms → List ℕ → ℕ → Answer ((ℤ × StringPool) × Rooms)
+takeAt p w t k =
+    let es = entriesOf p w in
+    let new = length es ≤? k in
+    let after = takenAt t k es in
+    if new && not (p .«long_string_refs») && 65535 ≤? length es then refused 11 nowhere
+    else if new && maxEntries ≤? length es then refused 12 nowhere
+    else if new && entryRoom w ≤? length es then refused 4 nowhere
+    else if length (w .text) <? length (texts after) then refused 6 nowhere
+    else gives ((pos (k + 1), counting p (length after)), putBack p w after)
+
+abbrev pub takeAnswer : Chooser → StringPool → Rooms → List ℕ → Answer ((ℤ × StringPool) × Rooms)
+takeAnswer choose p w t = if maxBytes <? length t then refused 22 nowhere else onSound p w (takeAt p w t (choose t (entriesOf p w)))
+
+abbrev pub takeOutcome : Chooser → StringPool → Rooms → List ℕ → Answer (ℤ × StringPool) × Rooms
+takeOutcome choose p w t = outcome w (takeAnswer choose p w t)
+
+abbrev pub takenAs : Taken → Answer (ℤ × StringPool)
+takenAs (taken.Ref r p) = gives (r .0, p)
+takenAs (taken.Refused x) = refusedBy x

@@ -1,0 +1,10 @@
+-- What the contracts of private functions say; the public ones cite nothing of it.
+pub mod Drop
+pub mod Entries
+pub mod Load
+pub mod Refs
+pub mod Show
+pub mod Sound
+pub mod Splice
+pub mod Take
+pub mod Write

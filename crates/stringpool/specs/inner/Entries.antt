@@ -1,0 +1,33 @@
+-- A pool's entries, cut out of the lent rooms, and the rooms with a list of entries put back.
+use Prim.Native.Nat.{ℕ, _+_, _-_, _≤_, max}
+use mathlib.Core.List.{List, [], _∷_, _++_, map}
+use lib.ListN.{length, take, drop, replicate}
+use Rattle.common.specs.Lists.{total}
+pub use Rattle.stringpool.specs.Pool.{Entry, Rooms, rooms, cut, texts}
+
+-- n entries fit the rooms, and their lengths the text
+pub record Fit (n : ℕ) (w : Rooms) : Type 0 where
+  pub lengths : n ≤ length (w .lengths)
+  pub counts : n ≤ length (w .counts)
+  pub text : total (take n (w .lengths)) ≤ length (w .text)
+
+-- the first n entries of the rooms
+abbrev pub entriesOf : ℕ → Rooms → List Entry
+entriesOf n w = cut (take n (w .lengths)) (take n (w .counts)) (w .text)
+
+abbrev pub lengthsOf : List Entry → List ℕ
+lengthsOf es = map (λ (e : Entry). length (e .text)) es
+
+abbrev pub countsOf : List Entry → List ℕ
+countsOf es = map (λ (e : Entry). e .count) es
+
+-- The rooms, of which n entries were in use, with the entries es put in their place: entries and bytes past the used part
+-- stay, but bytes given up by a shorter total become 0.
+abbrev pub putBack : ℕ → Rooms → List Entry → Rooms
+putBack n w es = record {
+  lengths = lengthsOf es ++ drop (length es) (w .lengths);
+  counts = countsOf es ++ drop (length es) (w .counts);
+  text =
+      texts es ++ replicate (total (take n (w .lengths)) - length (texts es)) 0
+      ++ drop (max (total (take n (w .lengths))) (length (texts es))) (w .text);
+}

@@ -1,0 +1,53 @@
+// An empty pool, and a pool with another code page.
+use crate::judge::Judged;
+use crate::judge::judge;
+use crate::pool::StringPool;
+use common::Refusal;
+use common::sizes::MAX_CODEPAGE;
+ghost use mathlib.Core.Path.{_≡_};
+ghost use Rattle.stringpool.specs.Pool.{rooms};
+ghost use Rattle.stringpool.specs.Pages.{pooledAs, newAnswer, pageAnswer, setPageAnswer};
+
+pub enum Pooled {
+    Is(StringPool),
+    Refused(Refusal),
+}
+
+impl StringPool {
+    // An empty pool with short references.
+    pub fn new(codepage: u32) -> Pooled
+        ensures { λ a. ⌜ pooledAs a ≡ newAnswer codepage ⌝ }
+    {
+        let p = StringPool {
+            num_strings: 0,
+            long_string_refs: false,
+            codepage: 0,
+        };
+        with_page(p, codepage)
+    }
+
+    // The pool with another code page.
+    pub fn set_codepage(self, lengths: &[u32], counts: &[u16], text: &[u8], codepage: u32) -> Pooled
+        ensures { λ a. ⌜ pooledAs a ≡ setPageAnswer self (rooms (now (lengths .entry)) (now (counts .entry)) (now (text .entry))) codepage ⌝ }
+    {
+        let j = judge(self, lengths, counts, text);
+        match j {
+            Judged::Refused(why) => Pooled::Refused(why),
+            Judged::Sound => with_page(self, codepage),
+        }
+    }
+}
+
+// The same, whatever the pool.
+fn with_page(p: StringPool, codepage: u32) -> Pooled
+    ensures { λ a. ⌜ pooledAs a ≡ pageAnswer p codepage ⌝ }
+{
+    if codepage > MAX_CODEPAGE {
+        return Pooled::Refused(Refusal::CodepageRange);
+    }
+    Pooled::Is(StringPool {
+        num_strings: p.num_strings,
+        long_string_refs: p.long_string_refs,
+        codepage,
+    })
+}

@@ -1,0 +1,5 @@
+pub mod Cases
+pub mod Masks
+pub mod Halves
+pub mod Cells
+pub mod Forms

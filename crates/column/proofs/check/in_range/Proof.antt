@@ -1,0 +1,39 @@
+-- `check::in_range` meets its contract: a signed comparison is that of the numbers. Assumes nothing.
+use mir.Facts.{toZ-ofZ}
+use mir.Syntax.{w32}
+use borrow.Author.Needs.{needs}
+use Rattle.column.proofs.check.in_range.Statement.{statement}
+use Rattle.column.proofs.check.in_range.Tie as tie
+
+enum-known-range : tie.Need-enum-known-range
+enum-known-range c = search needs
+
+enum-told : tie.Need-enum-told
+enum-told c = search needs
+
+returns : tie.Need-returns
+returns c = search needs
+
+returns-2 : tie.Need-returns-2
+returns-2 c =
+    let n = toZ-ofZ {w = w32} {z = c .before .before .before .before .args .n} (c .before .before .before .before .fits .n) in
+    let low = toZ-ofZ {w = w32} {z = c .before .before .range .given .0 .0} (record { sfits = c .before .known-told .given .0 .1 }) in
+    rw (c .before .before .range .given .1, rw (n, low) at (c .if1 .taken))
+
+returns-3 : tie.Need-returns-3
+returns-3 c =
+    let n = toZ-ofZ {w = w32} {z = c .before .before .before .before .before .args .n} (c .before .before .before .before .before .fits .n) in
+    let low = toZ-ofZ {w = w32} {z = c .before .before .before .range .given .0 .0} (record { sfits = c .before .before .known-told .given .0 .1 }) in
+    let high = toZ-ofZ {w = w32} {z = c .before .before .before .range .given .0 .1 .0} (record { sfits = c .before .before .known-told .given .1 .0 .1 }) in
+    rw (c .before .before .before .range .given .1, rw (n, low) at (c .before .if1 .left), rw (n, high) at (c .if2 .taken))
+
+returns-4 : tie.Need-returns-4
+returns-4 c =
+    let n = toZ-ofZ {w = w32} {z = c .before .before .before .before .before .args .n} (c .before .before .before .before .before .fits .n) in
+    let low = toZ-ofZ {w = w32} {z = c .before .before .before .range .given .0 .0} (record { sfits = c .before .before .known-told .given .0 .1 }) in
+    let high = toZ-ofZ {w = w32} {z = c .before .before .before .range .given .0 .1 .0} (record { sfits = c .before .before .known-told .given .1 .0 .1 }) in
+    rw (c .before .before .before .range .given .1, rw (n, low) at (c .before .if1 .left), rw (n, high) at (c .if2 .left))
+
+pub in-range-spec : {M : Type 1} → statement M
+in-range-spec =
+    tie.close (tie.spec enum-known-range enum-told returns returns-2 returns-3 returns-4)

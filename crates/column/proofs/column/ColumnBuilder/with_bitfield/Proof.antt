@@ -1,0 +1,34 @@
+use mathlib.Core.Bool.{_||_}
+-- `ColumnBuilder::with_bitfield` meets its contract: the type is that of the bits, and each mark is a bit. Assumes nothing.
+use Rattle.column.proofs.Masks.{mark-is}
+use mir.Facts.{toZ-ofZ}
+use mir.Val.{ofZ}
+use mir.Syntax.{w32}
+use mathlib.Core.Path.{_∙_, sym}
+use borrow.Author.Needs.{needs}
+use Rattle.column.proofs.column.ColumnBuilder.with_bitfield.Statement.{statement}
+use Rattle.column.proofs.column.ColumnBuilder.with_bitfield.Tie as tie
+
+type-of-requires : tie.Need-type-of-requires
+type-of-requires c κs = search needs
+
+enum-known-read : tie.Need-enum-known-read
+enum-known-read c = search needs
+
+enum-told : tie.Need-enum-told
+enum-told c = search needs
+
+returns : tie.Need-returns
+returns c =
+    let back = toZ-ofZ {w = w32} {z = c .before .before .before .args .type-bits} (c .before .before .before .fits .type-bits) in
+    rw (sym (rw (c .enum-told .given .1, back) at (c .before .before .type-of .ensures)))
+
+returns-2 : tie.Need-returns-2
+returns-2 c =
+    let back = toZ-ofZ {w = w32} {z = c .before .before .before .before .before .args .type-bits} (c .before .before .before .before .before .fits .type-bits) in
+    let b = ofZ w32 (c .before .before .before .before .before .args .type-bits) in
+    rw (sym (rw (c .before .before .read .given .1, back) at (c .before .before .before .before .type-of .ensures)), mark-is 9 b, mark-is 12 b, mark-is 13 b)
+
+pub with-bitfield-spec : {M : Type 1} → statement M
+with-bitfield-spec =
+    tie.close (tie.spec type-of-requires enum-known-read enum-told returns returns-2)

@@ -1,0 +1,50 @@
+-- Document 01, "Columns": the type in a column's bits, and the bits that are written.
+use Prim.Native.Nat.{ℕ, _+_, _-_, _/_, _%_}
+use mathlib.Core.Bool.{Bool, _||_}
+use lib.IntN.{ℤ}
+use mir.Syntax.{w32}
+use mir.Val.{ofZ}
+use Rattle.common.specs.Choice.{if_then_else_, _<?_, _=?_}
+use Rattle.common.specs.Sizes.{maxString}
+use Rattle.common.specs.Answers.{Answer, gives, refused, column}
+use Rattle.column.specs.declared.column.ColumnType.{ColumnType}
+use Rattle.column.specs.declared.column.ColumnType.the-variants.{Int16, Int32, Str, Binary}
+
+-- "Any signed 32-bit number may come": its bits, a negative number's by two's complement
+abbrev pub bitsOf : ℤ → ℕ
+bitsOf n = ofZ w32 n
+
+-- the bit of weight m is set
+abbrev pub has : ℕ → ℕ → Bool
+has m bits = bits / m % 2 =? 1
+
+abbrev pub without : ℕ → ℕ → ℕ
+without m bits = if has m bits then bits - m else bits
+
+-- the low byte
+abbrev pub size : ℕ → ℕ
+size bits = bits % 256
+
+-- "Type from bits, first that fits: bits without 0x1000 equal 0x900 is Binary; 0x800 set is Str of the low byte;
+-- size 4 is Int32, or Binary if 0x400 is set; 2 or 1 is Int16; else 13." The bits are those of the column c.
+abbrev pub typeFrom : ℕ → ℕ → Answer ColumnType
+typeFrom c bits =
+    if without 0x1000 bits =? 0x900 then gives Binary
+    else if has 0x800 bits then gives (Str (size bits))
+    else if size bits =? 4 then gives (if has 0x400 bits then Binary else Int32)
+    else if size bits =? 2 || size bits =? 1 then gives Int16
+    else refused 13 (column c)
+
+-- "Written bits: Int16 0x502, Int32 0x104, Str 0xD00 plus maximum, Binary 0x900"
+abbrev pub typeBits : ColumnType → ℕ
+typeBits Int16 = 0x502
+typeBits Int32 = 0x104
+typeBits (Str max) = 0xD00 + max
+typeBits Binary = 0x900
+
+-- "Str maximum above 255": 19, at the column c
+abbrev pub soundType : ℕ → ColumnType → Answer ColumnType
+soundType c Int16 = gives Int16
+soundType c Int32 = gives Int32
+soundType c (Str max) = if maxString <? max then refused 19 (column c) else gives (Str max)
+soundType c Binary = gives Binary

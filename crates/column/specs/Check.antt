@@ -1,0 +1,66 @@
+-- Document 01, "Value check": a value, by its kind and number, with a text beside it.
+use Prim.Native.Nat.{ℕ}
+use mathlib.Core.Bool.{Bool, true, false, not, _&&_, _||_}
+use mathlib.Core.List.{List}
+use lib.ListN.{length}
+use lib.IntN.{ℤ, pos, negsuc}
+use Rattle.common.specs.Choice.{if_then_else_, _<?_, _≤?_, _=?_, _<ℤ?_}
+use Rattle.common.specs.Sizes.{maxBytes}
+use Rattle.common.specs.Answers.{Answer, gives, refused, nowhere, onGiven}
+use Rattle.common.specs.Refusals.{refusedBy}
+use Rattle.column.specs.Bits.{soundType}
+use Rattle.column.specs.declared.column.ColumnType.{ColumnType}
+use Rattle.column.specs.declared.column.ColumnType.the-variants.{Int16, Int32, Str, Binary}
+use Rattle.column.specs.declared.column.Column.{Column}
+use Rattle.column.specs.declared.column.ValueRange.{ValueRange}
+use Rattle.column.specs.declared.column.ValueRange.the-variants.{Any, Within}
+use Rattle.column.specs.declared.check.Validity.{Validity}
+use Rattle.column.specs.declared.check.Validity.the-variants.{Valid, Invalid, Refused}
+
+abbrev pub isBinary : ColumnType → Bool
+isBinary Int16 = false
+isBinary Int32 = false
+isBinary (Str max) = false
+isBinary Binary = true
+
+-- "inside the range if given"
+abbrev pub inside : ValueRange → ℤ → Bool
+inside Any n = true
+inside (Within min max) n = not (n <ℤ? min || max <ℤ? n)
+
+-- above the one, at most the other
+abbrev pub between : ℤ → ℤ → ℤ → Bool
+between low high n = low <ℤ? n && not (high <ℤ? n)
+
+-- "above the smallest integer and at most the largest of its width": -32,768 and 32,767, -2,147,483,648 and 2,147,483,647
+abbrev pub integerFits : ColumnType → ℤ → Bool
+integerFits Int16 n = between (negsuc 32767) (pos 32767) n
+integerFits Int32 n = between (negsuc 2147483647) (pos 2147483647) n
+integerFits (Str max) n = false
+integerFits Binary n = false
+
+-- "text, on Str with maximum 0 or at most that many bytes"
+abbrev pub textFits : ColumnType → ℕ → Bool
+textFits Int16 bytes = false
+textFits Int32 bytes = false
+textFits (Str max) bytes = max =? 0 || bytes ≤? max
+textFits Binary bytes = false
+
+-- "Null, if nullable and not Binary; Int, [as above]; text, [as above]; Binary, on Binary"
+abbrev pub suits : Column → ℕ → ℤ → ℕ → Bool
+suits x kind n bytes =
+    if kind =? 0 then x .«is_nullable» && not (isBinary (x .coltype))
+    else if kind =? 1 then inside (x .«value_range») n && integerFits (x .coltype) n
+    else if kind =? 2 then textFits (x .coltype) bytes
+    else isBinary (x .coltype)
+
+-- `is_valid_value`: 22 for the text, then 19, else whether the value suits
+abbrev pub checkAnswer : Column → ℕ → ℤ → List ℕ → Answer Bool
+checkAnswer x kind n text =
+    if maxBytes <? length text then refused 22 nowhere
+    else onGiven (soundType 0 (x .coltype)) (λ t. gives (suits x kind n (length text)))
+
+abbrev pub validityAs : Validity → Answer Bool
+validityAs Valid = gives true
+validityAs Invalid = gives false
+validityAs (Refused x) = refusedBy x

@@ -1,0 +1,30 @@
+-- `Cell::new` meets its contract. Assumes nothing.
+use borrow.Author.Tests.{eq-eqb, ne-eqb}
+use mir.Syntax.{w32}
+use mir.Facts.{toZ-ofZ}
+use Rattle.value.proofs.Cell.new.Statement.{statement}
+use Rattle.value.proofs.Cell.new.Tie as tie
+
+returns : tie.Need-returns
+returns c = rw (c .if1 .taken)
+
+returns-2 : tie.Need-returns-2
+returns-2 c = rw (c .if2 .taken, toZ-ofZ {w = w32} {z = c .before .before .args .number} (c .before .before .fits .number))
+
+returns-3 : tie.Need-returns-3
+returns-3 c = rw (c .if3 .taken, toZ-ofZ {w = w32} {z = c .before .before .before .args .number} (c .before .before .before .fits .number))
+
+returns-4 : tie.Need-returns-4
+returns-4 c = rw (c .if4 .taken)
+
+returns-5 : tie.Need-returns-5
+returns-5 c =
+    simp (
+      ne-eqb _ _ (c .before .before .before .if1 .left),
+      ne-eqb _ _ (c .before .before .if2 .left),
+      ne-eqb _ _ (c .before .if3 .left),
+      ne-eqb _ _ (c .if4 .left),
+    )
+
+pub new-spec : {M : Type 1} → statement M
+new-spec = tie.close (tie.spec returns returns-2 returns-3 returns-4 returns-5)

@@ -1,0 +1,21 @@
+-- Document 01, "Rows": a cell is "a kind (0 Null, 1 Int, 2 Str, 3 Binary) and a signed 32-bit number, 0 for Null and Binary on reading".
+use Prim.Native.Nat.{ℕ}
+use lib.IntN.{ℤ, pos}
+use Rattle.value.specs.declared.ValueRef.{ValueRef}
+use Rattle.value.specs.declared.ValueRef.the-variants.{Null, Int, Str, Binary}
+
+abbrev pub kindOf : ValueRef → ℕ
+kindOf Null = 0
+kindOf (Int n) = 1
+kindOf (Str s) = 2
+kindOf Binary = 3
+
+abbrev pub numberOf : ValueRef → ℤ
+numberOf Null = pos 0
+numberOf (Int n) = n
+numberOf (Str s) = s .0
+numberOf Binary = pos 0
+
+-- both
+abbrev pub cellAs : ValueRef → ℕ × ℤ
+cellAs v = (kindOf v, numberOf v)

@@ -1,0 +1,65 @@
+// What a cell of a table holds: `ValueRef` on reading, and a cell as it is handed over for writing.
+use refs::StringRef;
+ghost use mathlib.Core.Path.{_≡_};
+ghost use Rattle.value.specs.Kinds.{kindOf, numberOf};
+ghost use Rattle.value.specs.inner.Handed.{cellOf};
+
+pub enum ValueRef {
+    Null,
+    Int(i32),
+    Str(StringRef),
+    Binary,
+}
+
+// A cell handed over for writing. Its number was not looked at, and its kind may be unknown.
+pub enum Cell {
+    Null,
+    Int(i32),
+    Str(i32),
+    Binary,
+    Unknown,
+}
+
+impl ValueRef {
+    pub fn kind(self) -> u8
+        ensures { λ r. ⌜ r ≡ kindOf self ⌝ }
+    {
+        match self {
+            ValueRef::Null => 0,
+            ValueRef::Int(_) => 1,
+            ValueRef::Str(_) => 2,
+            ValueRef::Binary => 3,
+        }
+    }
+
+    pub fn number(self) -> i32
+        ensures { λ r. ⌜ r ≡ numberOf self ⌝ }
+    {
+        match self {
+            ValueRef::Null => 0,
+            ValueRef::Int(n) => n,
+            ValueRef::Str(s) => s.0,
+            ValueRef::Binary => 0,
+        }
+    }
+}
+
+impl Cell {
+    pub fn new(kind: u8, number: i32) -> Cell
+        ensures { λ r. ⌜ r ≡ cellOf kind number ⌝ }
+    {
+        if kind == 0 {
+            return Cell::Null;
+        }
+        if kind == 1 {
+            return Cell::Int(number);
+        }
+        if kind == 2 {
+            return Cell::Str(number);
+        }
+        if kind == 3 {
+            return Cell::Binary;
+        }
+        Cell::Unknown
+    }
+}

@@ -1,0 +1,72 @@
+// What the exported calls answer: the refusal, all 0 where there is none, then what was given, all 0 where the call was refused.
+use common::Place;
+use common::Refusal;
+ghost use mathlib.Core.Path.{_≡_};
+ghost use Rattle.common.specs.Refusals.{numberOf, whereOf};
+ghost use Rattle.msi.specs.Answers.{refusalAt, noRefusal};
+
+// `place` is 0 where there is none, 1 for a column, 2 for a cell.
+#[repr(C)]
+pub struct Refused {
+    pub number: u32,
+    pub place: u32,
+    pub row: usize,
+    pub column: usize,
+}
+
+#[repr(C)]
+pub struct Count {
+    pub refused: Refused,
+    pub value: usize,
+}
+
+#[repr(C)]
+pub struct Name {
+    pub refused: Refused,
+    pub units: usize,
+    pub is_table: bool,
+}
+
+#[repr(C)]
+pub struct Flag {
+    pub refused: Refused,
+    pub value: bool,
+}
+
+pub(crate) fn none() -> Refused
+    ensures { λ r. ⌜ r ≡ noRefusal ⌝ }
+{
+    Refused {
+        number: 0,
+        place: 0,
+        row: 0,
+        column: 0,
+    }
+}
+
+pub(crate) fn told(why: Refusal) -> Refused
+    ensures { λ r. ⌜ r ≡ refusalAt (numberOf why) (whereOf why) ⌝ }
+{
+    let number = why.number();
+    let place = why.place();
+    match place {
+        Place::Nowhere => Refused {
+            number,
+            place: 0,
+            row: 0,
+            column: 0,
+        },
+        Place::Column(column) => Refused {
+            number,
+            place: 1,
+            row: 0,
+            column,
+        },
+        Place::Cell { row, column } => Refused {
+            number,
+            place: 2,
+            row,
+            column,
+        },
+    }
+}

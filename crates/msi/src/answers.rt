@@ -70,3 +70,30 @@ pub(crate) fn told(why: Refusal) -> Refused
         },
     }
 }
+
+// A pool's state; its rooms are lent beside it.
+#[repr(C)]
+pub struct Pool {
+    pub num_strings: usize,
+    pub codepage: u32,
+    pub long_string_refs: bool,
+}
+
+#[repr(C)]
+pub struct PoolAnswer {
+    pub refused: Refused,
+    pub pool: Pool,
+}
+
+#[repr(C)]
+pub struct TakeAnswer {
+    pub refused: Refused,
+    pub pool: Pool,
+    pub reference: i32,
+}
+
+#[repr(C)]
+pub struct Reference {
+    pub refused: Refused,
+    pub value: i32,
+}

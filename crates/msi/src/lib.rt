@@ -2,3 +2,4 @@
 // document 01's number with its place; what was not given is 0.
 mod answers;
 mod names;
+mod pool;

@@ -2,7 +2,11 @@
 use Prim.Native.Nat.{ℕ}
 use mathlib.Core.Bool.{false}
 use lib.IntN.{ℤ, pos}
-use Rattle.common.specs.Answers.{Answer}
+use mathlib.Core.List.{List}
+use Rattle.common.specs.Answers.{Answer, onGiven, outcome}
+use Rattle.stringpool.specs.Pool.{Rooms}
+use Rattle.stringpool.specs.Show.{showAnswer}
+use Rattle.stringpool.specs.Write.{writeAnswer}
 use Rattle.stringpool.specs.declared.pool.StringPool.{StringPool}
 use Rattle.msi.specs.Answers.{refusalIn, givenOr}
 use Rattle.msi.specs.declared.answers.Pool.{Pool}
@@ -28,3 +32,7 @@ takenIn a = record { refused = refusalIn a; pool = poolOut (givenOr (pos 0, noPo
 
 abbrev pub referenceIn : Answer ℤ → Reference
 referenceIn a = record { refused = refusalIn a; value = givenOr (pos 0) a }
+
+-- the text of a reference, written to an output: the refusals of showing it, then 7
+abbrev pub getOutcome : StringPool → Rooms → ℤ → List ℕ → Answer ℕ × List ℕ
+getOutcome p w r out = outcome out (onGiven (showAnswer p w r) (λ t. writeAnswer t out))

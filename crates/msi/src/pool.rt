@@ -9,6 +9,7 @@ use crate::answers::told;
 use common::Refusal;
 use stringpool::Counted;
 use stringpool::Dropped;
+use stringpool::Judged;
 use stringpool::Loaded;
 use stringpool::Made;
 use stringpool::Pooled;
@@ -17,7 +18,7 @@ use stringpool::StringRef;
 use stringpool::Taken;
 use stringpool::Written;
 ghost use mathlib.Core.Path.{_≡_};
-ghost use Rattle.common.specs.Answers.{gives};
+ghost use Rattle.common.specs.Answers.{gives, outcome};
 ghost use Rattle.common.specs.Refusals.{refusedBy};
 ghost use Rattle.stringpool.specs.Pool.{rooms};
 ghost use Rattle.stringpool.specs.Refs.{madeAs, referenceAnswer};
@@ -26,9 +27,9 @@ ghost use Rattle.stringpool.specs.Pages.{pooledAs, newAnswer, setPageAnswer};
 ghost use Rattle.stringpool.specs.Show.{countedAs, refcountAnswer};
 ghost use Rattle.stringpool.specs.Take.{takenAs, takeOutcome, firstFreeOrEqual};
 ghost use Rattle.stringpool.specs.Drop.{droppedAs, dropOutcome};
-ghost use Rattle.stringpool.specs.Write.{writtenAs, writeOutcome, poolBytes, dataBytes};
+ghost use Rattle.stringpool.specs.Write.{writtenAs, writeOutcome, writeAnswer, poolBytes, dataBytes};
 ghost use Rattle.msi.specs.Answers.{countIn, handed};
-ghost use Rattle.msi.specs.Pools.{stateIn, poolOut, poolIn, takenIn, referenceIn};
+ghost use Rattle.msi.specs.Pools.{stateIn, poolOut, poolIn, takenIn, referenceIn, getOutcome};
 
 fn state(pool: Pool) -> StringPool
     ensures { λ r. ⌜ r ≡ stateIn pool ⌝ }
@@ -194,7 +195,13 @@ pub extern "C" fn strandroost_load(
 }
 
 #[no_mangle]
-pub extern "C" fn strandroost_set_codepage(pool: Pool, lengths: &[u32], counts: &[u16], text: &[u8], codepage: u32) -> PoolAnswer
+pub extern "C" fn strandroost_set_codepage(
+    pool: Pool,
+    lengths: &[u32],
+    counts: &[u16],
+    text: &[u8],
+    codepage: u32,
+) -> PoolAnswer
     ensures { λ r. ⌜ r ≡ poolIn (setPageAnswer (stateIn pool) (rooms (now (lengths .entry)) (now (counts .entry)) (now (text .entry))) codepage) ⌝ }
 {
     let was = state(pool);
@@ -202,11 +209,60 @@ pub extern "C" fn strandroost_set_codepage(pool: Pool, lengths: &[u32], counts: 
 }
 
 #[no_mangle]
-pub extern "C" fn strandroost_refcount(pool: Pool, lengths: &[u32], counts: &[u16], text: &[u8], number: i32) -> Count
+pub extern "C" fn strandroost_refcount(
+    pool: Pool,
+    lengths: &[u32],
+    counts: &[u16],
+    text: &[u8],
+    number: i32,
+) -> Count
     ensures { λ r. ⌜ r ≡ countIn (refcountAnswer (stateIn pool) (rooms (now (lengths .entry)) (now (counts .entry)) (now (text .entry))) number) ⌝ }
 {
     let was = state(pool);
     from_counted(was.refcount(lengths, counts, text, number))
+}
+
+fn refused_count(why: Refusal) -> Count
+    ensures { λ r. ⌜ r ≡ countIn (refusedBy why) ⌝ }
+{
+    Count {
+        refused: told(why),
+        value: 0,
+    }
+}
+
+// A part of the text room, copied to the output whole or not at all.
+fn copied(part: &[u8], out: &mut [u8]) -> Count
+    ensures { λ r. ⌜ (r, now (out .exit)) ≡ handed countIn (outcome (now (out .entry)) (writeAnswer (now (part .entry)) (now (out .entry)))) ⌝ }
+{
+    if out.len() < part.len() {
+        return refused_count(Refusal::OutputRoom);
+    }
+    let value = bytes::copy(part, out);
+    Count {
+        refused: none(),
+        value,
+    }
+}
+
+// The text of a reference. An exported call cannot hand out a part of a lent room, so the text is copied to an output.
+#[no_mangle]
+pub extern "C" fn strandroost_get(
+    pool: Pool,
+    lengths: &[u32],
+    counts: &[u16],
+    text: &[u8],
+    number: i32,
+    out: &mut [u8],
+) -> Count
+    ensures { λ r. ⌜ (r, now (out .exit)) ≡ handed countIn (getOutcome (stateIn pool) (rooms (now (lengths .entry)) (now (counts .entry)) (now (text .entry))) number (now (out .entry))) ⌝ }
+{
+    let was = state(pool);
+    let shown = was.get_refusal(lengths, counts, text, number);
+    match shown {
+        Judged::Refused(why) => refused_count(why),
+        Judged::Sound => copied(was.get(lengths, counts, text, number), out),
+    }
 }
 
 #[no_mangle]
@@ -249,7 +305,7 @@ pub extern "C" fn strandroost_write_pool(
 ) -> Count
     ensures { λ r. ⌜ (r, now (out .exit))
         ≡ handed countIn (writeOutcome (stateIn pool) (rooms (now (lengths .entry)) (now (counts .entry)) (now (text .entry)))
-            (poolBytes (stateIn pool) (rooms (now (lengths .entry)) (now (counts .entry)) (now (text .entry)))) (now (out .entry))) ⌝ }
+        (poolBytes (stateIn pool) (rooms (now (lengths .entry)) (now (counts .entry)) (now (text .entry)))) (now (out .entry))) ⌝ }
 {
     let was = state(pool);
     from_written(was.write_pool(lengths, counts, text, out))
@@ -265,7 +321,7 @@ pub extern "C" fn strandroost_write_data(
 ) -> Count
     ensures { λ r. ⌜ (r, now (out .exit))
         ≡ handed countIn (writeOutcome (stateIn pool) (rooms (now (lengths .entry)) (now (counts .entry)) (now (text .entry)))
-            (dataBytes (stateIn pool) (rooms (now (lengths .entry)) (now (counts .entry)) (now (text .entry)))) (now (out .entry))) ⌝ }
+        (dataBytes (stateIn pool) (rooms (now (lengths .entry)) (now (counts .entry)) (now (text .entry)))) (now (out .entry))) ⌝ }
 {
     let was = state(pool);
     from_written(was.write_data(lengths, counts, text, out))

@@ -20,7 +20,7 @@ told-requires : tie.Need-told-requires
 told-requires c κs = search needs
 
 returns : tie.Need-returns
-returns c = 
+returns c =
     let z : ℤ = c .before .before .before .answer .given .0 .0 .0 in
     let fits : SFits w32 z = search needs in
     let back : toZ w32 (ofZ w32 z) ≡ z = toZ-ofZ w32 z fits in

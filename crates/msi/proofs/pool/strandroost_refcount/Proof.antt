@@ -22,7 +22,7 @@ from-counted-requires : tie.Need-from-counted-requires
 from-counted-requires c κs = search needs
 
 returns : tie.Need-returns
-returns c = 
+returns c =
     let s = c .before .before .before .before .before .before .args in
     let z : ℤ = s .number in
     let fits : SFits w32 z = search needs in

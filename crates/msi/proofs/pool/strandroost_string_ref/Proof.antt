@@ -16,7 +16,7 @@ from-made-requires : tie.Need-from-made-requires
 from-made-requires c κs = search needs
 
 returns : tie.Need-returns
-returns c = 
+returns c =
     let z : ℤ = c .before .before .args .number in
     let fits : SFits w32 z = search needs in
     let back : toZ w32 (ofZ w32 z) ≡ z = toZ-ofZ w32 z fits in

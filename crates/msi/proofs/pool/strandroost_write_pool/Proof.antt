@@ -22,7 +22,7 @@ same-length : tie.Need-same-length
 same-length c = search needs
 
 returns : tie.Need-returns
-returns c = 
+returns c =
     let s = c .before .before .before .before .before .before .before .before .before .before .args in
     let w = rooms (now (s .lengths)) (now (s .counts)) (now (s .text)) in
     hands countIn (c .from-written .ensures) (c .before .before .before .write-pool .ensures ∙ ap (λ (q : StringPool). writeOutcome q w (poolBytes q w) (now (s .out))) (c .before .before .before .before .before .state .ensures))

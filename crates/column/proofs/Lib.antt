@@ -3,3 +3,4 @@ pub mod Masks
 pub mod Halves
 pub mod Cells
 pub mod Forms
+pub mod Numbers

@@ -1,0 +1,111 @@
+-- What the calls answer, at each of their tests. Assumes nothing.
+use mathlib.Core.Path.{_≡_, refl, sym, _∙_, ap}
+use mathlib.Core.Bool.{Bool, true, false, not, _&&_}
+use mathlib.Core.List.{List}
+use Prim.Native.Nat.{ℕ, _+_, _*_, _/_, _<_, _≤_}
+use native.Mathlib.Nat.{div-mul-le-self, zero-mul, mul-comm}
+use native.Mathlib.Omega.{arith}
+use lib.Dec.{ltb, eqb}
+use borrow.Author.Tests.{lt-ltb, le-ltb, ltb-false, eq-eqb, ne-eqb}
+use lib.ListN.{length}
+use Rattle.common.specs.Choice.{if_then_else_}
+use Rattle.common.specs.Lists.{_over_}
+use Rattle.common.specs.Answers.{Place, nowhere, Answer, gives, refused, onGiven, refusalOf}
+use Rattle.column.specs.declared.column.ColumnType.{ColumnType}
+use Rattle.column.specs.declared.column.Column.{Column}
+use Rattle.table.specs.declared.layout.Table.{Table}
+use Rattle.table.specs.Layout.{typesOf, soundColumns}
+use Rattle.table.specs.Rows.{rowSize, rowsIn}
+use Rattle.table.specs.Reading.{rowsFound, numRowsAnswer}
+use Rattle.table.specs.Writing.{Cells, columnBytes, tableBytes, writtenRows}
+use Rattle.table.specs.inner.Layout.{Sound}
+use Rattle.table.specs.inner.Columns.{plain}
+use Rattle.table.proofs.Each.{refused-is}
+use Rattle.table.proofs.Layouts.{judged-sound}
+use Rattle.table.proofs.Column.{table-given, table-length}
+
+-- ---- the rows of a stream
+
+pub record Found (t : Table) (s : List ℕ) (rows : ℕ) : Type 0 where
+  pub small : length s ≤ 268435455
+  pub sound : Sound t
+  pub is : rows ≡ rowsIn (typesOf t) (t .«long_string_refs») s
+  pub few : rows ≤ 65536
+
+module _ (t : Table) (s : List ℕ) (rows : ℕ) where
+  abbrev count : ℕ
+  count = rowsIn (typesOf t) (t .«long_string_refs») s
+
+  pub found : numRowsAnswer t s ≡ gives rows → Found t s rows
+  found e = go (ltb 268435455 (length s)) refl (soundColumns 64 t) refl (ltb 65536 count) refl e
+    where
+      go : (a : Bool) → ltb 268435455 (length s) ≡ a → (x : Answer (List Column)) → soundColumns 64 t ≡ x → (b : Bool) → ltb 65536 count ≡ b
+          → (if a then refused 22 nowhere else onGiven x (λ y. if b then refused 14 nowhere else gives count)) ≡ gives rows → Found t s rows
+      go true p x q b r f = absurd (let y : _≡_ {A = ℕ} 0 1 = cc in omega arith)
+      go false p (refused n at) q b r f = absurd (let y : _≡_ {A = ℕ} 0 1 = cc in omega arith)
+      go false p (gives y) q true r f = absurd (let z : _≡_ {A = ℕ} 0 1 = cc in omega arith)
+      go false p (gives y) q false r f =
+          let same : count ≡ rows = cc in
+          record { small = ltb-false 268435455 (length s) p; sound = judged-sound t (rw q); is = sym same; few = rw (← same) (ltb-false 65536 count r) }
+
+-- the rows lie within the stream
+rows-within : (size n rows : ℕ) (b : Bool) → eqb size 0 ≡ b → rows ≡ (if b then 0 else n / size) → rows * size ≤ n
+rows-within size n rows true e q = rw (q, zero-mul) (omega arith)
+rows-within size n rows false e q = rw q (div-mul-le-self n size)
+
+pub holds : {t : Table} {s : List ℕ} {rows : ℕ} → Found t s rows → rows * rowSize (typesOf t) (t .«long_string_refs») ≤ length s
+holds {t} {s} {rows} f = rows-within (rowSize (typesOf t) (t .«long_string_refs»)) (length s) rows (eqb (rowSize (typesOf t) (t .«long_string_refs»)) 0) refl (f .is)
+
+-- ---- a bulk write
+
+module _ (ts : List ColumnType) (long : Bool) (rows : ℕ) (cells : Cells) (out : List ℕ) where
+  abbrev answer : Answer (ℕ × List ℕ)
+  answer = writtenRows 65536 ts long rows cells out
+
+  abbrev bytes : List ℕ
+  bytes = plain (columnBytes ts long rows cells) 0 (length ts)
+
+  pub many-rows : 65536 < rows → answer ≡ refused 14 nowhere
+  many-rows h = rw (lt-ltb 65536 rows h)
+
+  module _ (few : rows ≤ 65536) where
+    pub wrong-kinds : (length (cells .kinds) ≡ rows * length ts → ⊥) → answer ≡ refused 23 nowhere
+    wrong-kinds h = rw (le-ltb 65536 rows few, ne-eqb (length (cells .kinds)) (rows * length ts) h)
+
+    module _ (k : length (cells .kinds) ≡ rows * length ts) where
+      pub wrong-numbers : (length (cells .numbers) ≡ rows * length ts → ⊥) → answer ≡ refused 23 nowhere
+      wrong-numbers h = rw (le-ltb 65536 rows few, eq-eqb (length (cells .kinds)) (rows * length ts) k, ne-eqb (length (cells .numbers)) (rows * length ts) h)
+
+      module _ (n : length (cells .numbers) ≡ rows * length ts) where
+        pub bad-cell : (m : ℕ) (at : Place) → refused m at ≡ refusalOf (tableBytes ts long rows cells) → answer ≡ refused m at
+        bad-cell m at e =
+            rw (
+              le-ltb 65536 rows few,
+              eq-eqb (length (cells .kinds)) (rows * length ts) k,
+              eq-eqb (length (cells .numbers)) (rows * length ts) n,
+              refused-is (tableBytes ts long rows cells) m at (sym e),
+            )
+
+        module _ (fine : gives tt ≡ refusalOf (tableBytes ts long rows cells)) where
+          pub no-room : length out < rows * rowSize ts long → answer ≡ refused 7 nowhere
+          no-room h =
+              let l = table-length ts long rows cells (sym fine) in
+              rw (
+                le-ltb 65536 rows few,
+                eq-eqb (length (cells .kinds)) (rows * length ts) k,
+                eq-eqb (length (cells .numbers)) (rows * length ts) n,
+                table-given ts long rows cells (sym fine),
+                lt-ltb (length out) (length bytes) (omega arith),
+              )
+
+          pub written : rows * rowSize ts long ≤ length out → answer ≡ gives (rows * rowSize ts long, bytes over out)
+          written h =
+              let l = table-length ts long rows cells (sym fine) in
+              rw (
+                le-ltb 65536 rows few,
+                eq-eqb (length (cells .kinds)) (rows * length ts) k,
+                eq-eqb (length (cells .numbers)) (rows * length ts) n,
+                table-given ts long rows cells (sym fine),
+                le-ltb (length out) (length bytes) (omega arith),
+                l,
+              )

@@ -1,0 +1,138 @@
+-- One column's cells: by its form, and by its type; and all columns. Assumes nothing.
+use mathlib.Core.Path.{_≡_, refl, sym, _∙_, ap}
+use mathlib.Core.Bool.{Bool}
+use mathlib.Core.List.{List, [], _∷_, _++_}
+use Prim.Native.Nat.{ℕ, zero, suc, _+_, _*_, _<_, _≤_}
+use native.Mathlib.Nat.{mul-add, mul-zero, add-zero, mul-le-mul-left, not-suc-le-zero, le-of-suc-le-suc}
+use native.Mathlib.Numerals.{add-one}
+use native.Mathlib.Omega.{arith}
+use lib.IntN.{ℤ, pos}
+use lib.ListN.{length, getD, take, drop, length-append}
+use lib.Seq.{take-all, getD-take, getD-drop}
+use Rattle.common.specs.Lists.{joined, from}
+use Rattle.common.specs.Answers.{Place, Answer, gives, refused, cell, onGiven, each, refusalOf}
+use Rattle.little_endian.specs.Numbers.{bytesOf, numberAt as numberIn}
+use Rattle.little_endian.proofs.Laws.{length-bytes}
+use Rattle.value.specs.inner.Handed.{cellOf}
+use Rattle.column.specs.declared.column.ColumnType.{ColumnType}
+use Rattle.column.specs.declared.form.CellForm.{CellForm}
+use Rattle.column.specs.Cells.{width, stored, unstored}
+use Rattle.column.specs.inner.Forms.{formFor, typeIn, longIn, plainNumber}
+use Rattle.column.proofs.Cells.{form-width, form-stored, form-unstored}
+use Rattle.column.proofs.Numbers.{fine-number}
+use Rattle.table.specs.declared.layout.Stride.{Stride}
+use Rattle.table.specs.Rows.{rowSize, typeAt, cellAt}
+use Rattle.table.specs.Writing.{Cells, cellBytes, columnBytes, tableBytes}
+use Rattle.table.specs.inner.Columns.{formWidth, givenBytes, formBytes, plain, formCell}
+use Rattle.table.proofs.Each.{given-refusal, each-same, all-given, plain-length, fine-first}
+use Rattle.table.proofs.Layouts.{column-in}
+
+-- the cell at a row
+module _ (f : CellForm) (cells : Cells) (run : Stride) (r : ℕ) where
+  abbrev kindAt : ℕ
+  kindAt = getD (cells .kinds) (r * run .step + run .column) 0
+
+  abbrev numberAt : ℤ
+  numberAt = getD (cells .numbers) (r * run .step + run .column) (pos 0)
+
+  pub judged-cell : refusalOf (formBytes f cells run r) ≡ refusalOf (stored (typeIn f) (longIn f) (cell r (run .column)) kindAt numberAt)
+  judged-cell = given-refusal (stored (typeIn f) (longIn f) (cell r (run .column)) kindAt numberAt) (λ n. bytesOf (formWidth f) n)
+
+  bytes-of : (a : Answer ℕ) → stored (typeIn f) (longIn f) (cell r (run .column)) kindAt numberAt ≡ a → refusalOf a ≡ gives tt
+      → givenBytes (formBytes f cells run r) ≡ bytesOf (formWidth f) (plainNumber f (cellOf kindAt numberAt))
+  bytes-of (gives n) e h = rw (e, fine-number f (cell r (run .column)) kindAt numberAt n e)
+  bytes-of (refused n at) e h = absurd (let y : _≡_ {A = ℕ} 0 1 = cc in omega arith)
+
+  pub fine-bytes : refusalOf (formBytes f cells run r) ≡ gives tt → givenBytes (formBytes f cells run r) ≡ bytesOf (formWidth f) (plainNumber f (cellOf kindAt numberAt))
+  fine-bytes h = bytes-of (stored (typeIn f) (longIn f) (cell r (run .column)) kindAt numberAt) refl (sym judged-cell ∙ h)
+
+  pub fine-length : refusalOf (formBytes f cells run r) ≡ gives tt → length (givenBytes (formBytes f cells run r)) ≡ formWidth f
+  fine-length h = ap length (fine-bytes h) ∙ length-bytes (formWidth f) (plainNumber f (cellOf kindAt numberAt))
+
+-- the cells of a column are those of its form
+pub form-bytes : (t : ColumnType) (long : Bool) (cells : Cells) (run : Stride) (r : ℕ) → formBytes (formFor t long) cells run r ≡ cellBytes t long (run .step) cells (run .column) r
+form-bytes t long cells run r =
+    let i = r * run .step + run .column in
+    rw (form-width long t, form-stored long t (cell r (run .column)) (getD (cells .kinds) i 0) (getD (cells .numbers) i (pos 0)))
+
+-- ---- a column of a table, by its form
+
+module _ (ts : List ColumnType) (long : Bool) (rows : ℕ) (cells : Cells) (c : ℕ) where
+  abbrev run : Stride
+  run = record { column = c; step = length ts; rows = rows }
+
+  abbrev form : CellForm
+  form = formFor (typeAt ts c) long
+
+  each-form : each (formBytes form cells run) (from 0 rows) ≡ each (cellBytes (typeAt ts c) long (length ts) cells c) (from 0 rows)
+  each-form = each-same (formBytes form cells run) (cellBytes (typeAt ts c) long (length ts) cells c) (from 0 rows) (λ r. form-bytes (typeAt ts c) long cells run r)
+
+  pub column-judged : refusalOf (columnBytes ts long rows cells c) ≡ refusalOf (each (formBytes form cells run) (from 0 rows))
+  column-judged = given-refusal (each (cellBytes (typeAt ts c) long (length ts) cells c) (from 0 rows)) (λ bytes. joined bytes) ∙ ap refusalOf (sym each-form)
+
+  pub column-given : refusalOf (columnBytes ts long rows cells c) ≡ gives tt → columnBytes ts long rows cells c ≡ gives (plain (formBytes form cells run) 0 rows)
+  column-given h =
+      let e = all-given (formBytes form cells run) (from 0 rows) (sym column-judged ∙ h) in
+      rw (← each-form, e)
+
+  pub column-bytes : refusalOf (columnBytes ts long rows cells c) ≡ gives tt → givenBytes (columnBytes ts long rows cells c) ≡ plain (formBytes form cells run) 0 rows
+  column-bytes h = ap givenBytes (column-given h)
+
+  pub column-length : refusalOf (columnBytes ts long rows cells c) ≡ gives tt → length (givenBytes (columnBytes ts long rows cells c)) ≡ rows * width (typeAt ts c) long
+  column-length h =
+      ap length (column-bytes h)
+      ∙ plain-length (formBytes form cells run) (formWidth form) 0 rows (λ r. fine-length form cells run r) (sym column-judged ∙ h)
+      ∙ ap (λ (w : ℕ). rows * w) (sym (form-width long (typeAt ts c)))
+
+-- ---- all columns
+
+pub size-next : (ts : List ColumnType) (long : Bool) (c : ℕ) → c < length ts → rowSize (take (c + 1) ts) long ≡ rowSize (take c ts) long + width (typeAt ts c) long
+size-next [] long c h = absurd (not-suc-le-zero h)
+size-next (t ∷ ts) long zero h = omega arith
+size-next (t ∷ ts) long (suc c) h = rw add-one (omega (arith, rw add-one at (size-next ts long c (le-of-suc-le-suc h))))
+
+module _ (ts : List ColumnType) (long : Bool) (rows : ℕ) (cells : Cells) where
+  abbrev bytesAt : ℕ → Answer (List ℕ)
+  bytesAt = columnBytes ts long rows cells
+
+  pub table-judged : refusalOf (tableBytes ts long rows cells) ≡ refusalOf (each bytesAt (from 0 (length ts)))
+  table-judged = given-refusal (each bytesAt (from 0 (length ts))) (λ bytes. joined bytes)
+
+  pub table-given : refusalOf (tableBytes ts long rows cells) ≡ gives tt → tableBytes ts long rows cells ≡ gives (plain bytesAt 0 (length ts))
+  table-given h = rw (all-given bytesAt (from 0 (length ts)) (sym table-judged ∙ h))
+
+  columns-length : (c n : ℕ) → c + n ≡ length ts → refusalOf (each bytesAt (from c n)) ≡ gives tt → rows * rowSize (take c ts) long + length (plain bytesAt c n) ≡ rows * rowSize ts long
+  columns-length c zero e h =
+      let all : take c ts ≡ ts = take-all c ts (omega arith) in
+      rw all (omega arith)
+  columns-length c (suc n) e h =
+      let p = fine-first bytesAt c (from (suc c) n) h in
+      let l = column-length ts long rows cells c (p .0) in
+      let more = columns-length (suc c) n (omega arith) (p .1) in
+      let next : rows * rowSize (take (suc c) ts) long ≡ rows * rowSize (take c ts) long + rows * width (typeAt ts c) long =
+      ap (λ (k : ℕ). rows * k) (rw add-one at (size-next ts long c (omega arith))) ∙ mul-add rows _ _ in
+      rw length-append (omega arith)
+
+  pub table-length : refusalOf (tableBytes ts long rows cells) ≡ gives tt → length (plain bytesAt 0 (length ts)) ≡ rows * rowSize ts long
+  table-length h =
+      let z : rows * rowSize (take 0 ts) long ≡ 0 = mul-zero rows in
+      omega (arith, columns-length 0 (length ts) (omega arith) (sym table-judged ∙ h))
+
+-- a column lies within the rows
+pub column-within : (ts : List ColumnType) (long : Bool) (rows c : ℕ) → c < length ts → rows * rowSize (take c ts) long + rows * width (typeAt ts c) long ≤ rows * rowSize ts long
+column-within ts long rows c h = rw mul-add at (mul-le-mul-left rows (column-in long ts c h))
+
+-- ---- reading
+
+part-number : (w k : ℕ) (s : List ℕ) (at i : ℕ) → i + w ≤ k → numberIn w (take k (drop at s)) i ≡ numberIn w s (at + i)
+part-number zero k s at i h = refl
+part-number (suc w) k s at i h =
+    let e : at + suc i ≡ suc (at + i) = omega arith in
+    rw (getD-take k (drop at s) i 0 (omega arith), getD-drop, part-number w k s at (suc i) (omega arith), e)
+
+-- a cell read from its own bytes
+pub cell-part : (f : CellForm) (s : List ℕ) (at k : ℕ) → formWidth f ≤ k → numberIn (formWidth f) (take k (drop at s)) 0 ≡ numberIn (formWidth f) s at
+cell-part f s at k h = part-number (formWidth f) k s at 0 (omega arith) ∙ ap (numberIn (formWidth f) s) (add-zero at)
+
+pub form-cell : (ts : List ColumnType) (long : Bool) (rows : ℕ) (s : List ℕ) (r c : ℕ) → formCell (formFor (typeAt ts c) long) s (rows * rowSize (take c ts) long) r ≡ cellAt ts long rows s r c
+form-cell ts long rows s r c = rw (form-width long (typeAt ts c), form-unstored long (typeAt ts c))

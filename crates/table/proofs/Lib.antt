@@ -1,0 +1,6 @@
+pub mod Each
+pub mod Layouts
+pub mod Grid
+pub mod Column
+pub mod Answers
+pub mod Bits

@@ -1,0 +1,106 @@
+-- `write::judge_columns` meets its contract: what the columns that are left say, is what all say. Assumes nothing.
+use Rattle.column.specs.inner.Forms.{formFor}
+use Rattle.table.proofs.Column.{column-judged, table-judged}
+use Rattle.table.proofs.Layouts.{types-count}
+use Rattle.table.proofs.Each.{each-turn, each-stop, each-end}
+use Rattle.table.specs.inner.Columns.{formBytes}
+use Rattle.table.specs.inner.Layout.{verdictAs}
+use Rattle.table.specs.Writing.{Cells, columnBytes, tableBytes}
+use Rattle.table.specs.Rows.{typeAt}
+use Rattle.table.specs.Layout.{typesOf}
+use Rattle.common.specs.Answers.{Answer, refusalOf, each}
+use Rattle.common.specs.Lists.{from}
+use lib.ListN.{length, length-map}
+use native.Mathlib.Omega.{arith}
+use native.Mathlib.Nat.{sub-zero}
+use Prim.Native.Nat.{ℕ, _+_, _-_, _*_, _≤_, _<_}
+use mathlib.Core.List.{List}
+use mathlib.Core.Path.{_≡_, refl, sym, ap, _∙_}
+use borrow.Author.Needs.{needs}
+use Rattle.table.proofs.write.judge_columns.Statement.{statement}
+use Rattle.table.proofs.write.judge_columns.Tie as tie
+
+abbrev Inv-loop : tie.InvT-loop
+Inv-loop table rows kinds numbers count c₀ c =
+    (c ≤ count)
+    × (refusalOf (each (columnBytes (typesOf table) (table .«long_string_refs») rows (record { kinds = kinds; numbers = numbers })) (from c (count - c)))
+    ≡ refusalOf (each (columnBytes (typesOf table) (table .«long_string_refs») rows (record { kinds = kinds; numbers = numbers })) (from 0 count)))
+
+abbrev μ-loop : tie.MeasureT-loop
+μ-loop table rows kinds numbers count c₀ c = count - c
+
+abbrev cellsOf : tie.Start Inv-loop μ-loop → Cells
+cellsOf c = record { kinds = c .args .kinds .now; numbers = c .args .numbers .now }
+
+abbrev bytesIn : (c : tie.Start Inv-loop μ-loop) → ℕ → Answer (List ℕ)
+bytesIn c = columnBytes (typesOf (c .args .table)) (c .args .table .«long_string_refs») (c .args .rows) (cellsOf c)
+
+count-is : (c : tie.Start Inv-loop μ-loop) → length (typesOf (c .args .table)) ≡ c .args .table .count
+count-is c = types-count (c .args .table) (c .pre .0 .0) (rw length-map at (c .good .0 .1 .1 .0 .1 .0 .1))
+
+whole : (c : tie.Start Inv-loop μ-loop) → refusalOf (each (bytesIn c) (from 0 (c .args .table .count))) ≡ refusalOf (tableBytes (typesOf (c .args .table)) (c .args .table .«long_string_refs») (c .args .rows) (cellsOf c))
+whole c =
+    ap (λ (n : ℕ). refusalOf (each (bytesIn c) (from 0 n))) (sym (count-is c))
+    ∙ sym (table-judged (typesOf (c .args .table)) (c .args .table .«long_string_refs») (c .args .rows) (cellsOf c))
+
+-- what the column of this turn says
+said : (c : tie.After-judge-column Inv-loop μ-loop) → refusalOf (bytesIn (c .before .before .before .before .before) (c .before .before .before .loop .c)) ≡ verdictAs (c .judge-column .result)
+said c =
+    let t = c .before .before .before .before .before .args .table in
+    column-judged (typesOf t) (t .«long_string_refs») (c .before .before .before .before .before .args .rows) (cellsOf (c .before .before .before .before .before)) (c .before .before .before .loop .c)
+    ∙ ap (λ (n : ℕ). refusalOf (each (formBytes (formFor (typeAt (typesOf t) (c .before .before .before .loop .c)) (t .«long_string_refs»)) (cellsOf (c .before .before .before .before .before)) (record { column = c .before .before .before .loop .c; step = n; rows = c .before .before .before .before .before .args .rows })) (from 0 (c .before .before .before .before .before .args .rows)))) (count-is (c .before .before .before .before .before))
+    ∙ sym (rw (c .before .form-at .ensures) at (c .judge-column .ensures))
+
+loop-holds : tie.Need-loop-holds Inv-loop μ-loop
+loop-holds c = (omega arith, rw sub-zero)
+
+form-at-requires : tie.Need-form-at-requires Inv-loop μ-loop
+form-at-requires c κs = (c .before .before .before .pre .0, c .loop-test .taken)
+
+judge-column-requires : tie.Need-judge-column-requires Inv-loop μ-loop
+judge-column-requires c κs = record { kinds = c .before .before .before .before .pre .2; numbers = c .before .before .before .before .pre .3; below = c .before .loop-test .taken }
+
+enum-known-verdict : tie.Need-enum-known-verdict Inv-loop μ-loop
+enum-known-verdict c = search needs
+
+returns : tie.Need-returns Inv-loop μ-loop
+returns c =
+    let l = c .before .before .before .before .before .before .loop in
+    each-stop (bytesIn (c .before .before .before .before .before .before .before .before)) (l .c) (c .before .before .before .before .before .before .before .before .args .table .count) (c .before .before .before .before .before .loop-test .taken) _ _ (said (c .before .before .before) ∙ ap verdictAs (c .before .verdict .given .1))
+    ∙ l .inv .1 ∙ whole (c .before .before .before .before .before .before .before .before)
+
+enum-told : tie.Need-enum-told Inv-loop μ-loop
+enum-told c = search needs
+
+add-c : tie.Need-add-c Inv-loop μ-loop
+add-c c = search needs
+
+loop-less : tie.Need-loop-less Inv-loop μ-loop
+loop-less c = search needs
+
+loop-again : tie.Need-loop-again Inv-loop μ-loop
+loop-again c =
+    let l = c .before .before .before .before .before .loop in
+    (omega arith, each-turn (bytesIn (c .before .before .before .before .before .before .before)) (l .c) (c .before .before .before .before .before .before .before .args .table .count) (c .before .before .before .before .loop-test .taken) (said (c .before .before) ∙ ap verdictAs (c .enum-told .given .1)) ∙ l .inv .1)
+
+returns-2 : tie.Need-returns-2 Inv-loop μ-loop
+returns-2 c =
+    let l = c .before .loop in
+    each-end (bytesIn (c .before .before .before)) (l .c) (c .before .before .before .args .table .count) (c .loop-test .left) ∙ l .inv .1 ∙ whole (c .before .before .before)
+
+pub judge-columns-spec : {M : Type 1} → statement M
+judge-columns-spec =
+    tie.close
+    (tie.spec
+    Inv-loop
+    μ-loop
+    loop-holds
+    form-at-requires
+    judge-column-requires
+    enum-known-verdict
+    returns
+    enum-told
+    add-c
+    loop-less
+    loop-again
+    returns-2)

@@ -1,0 +1,192 @@
+// Cells read by place, and in bulk: column after column, each to every `step`-th place of the outputs.
+use crate::layout;
+use crate::layout::Counted;
+use crate::layout::Layout;
+use crate::layout::Stride;
+use crate::layout::Table;
+use crate::layout::Verdict;
+use column::CellForm;
+use common::Refusal;
+use common::sizes::MAX_BYTES;
+use common::sizes::MAX_COLUMNS;
+use common::sizes::MAX_ROWS;
+use value::ValueRef;
+ghost use mathlib.Core.Path.{_≡_};
+ghost use mathlib.Core.List.{map};
+ghost use Prim.Native.Nat.{_+_, _*_, _/_, _<_, _≤_};
+ghost use lib.ListN.{length};
+ghost use Rattle.common.specs.Choice.{if_then_else_, _=?_};
+ghost use Rattle.common.specs.Lists.{from};
+ghost use Rattle.value.specs.Kinds.{cellAs};
+ghost use Rattle.table.specs.Layout.{typesOf};
+ghost use Rattle.table.specs.Rows.{rowSize, cellAt, rowByRow};
+ghost use Rattle.table.specs.Reading.{numRowsAnswer, readCellAnswer, readRowsOutcome, countedAs, cellReadAs};
+ghost use Rattle.table.specs.inner.Layout.{Sound, layoutOf};
+ghost use Rattle.table.specs.inner.Columns.{formWidth, strided, formCell, Held};
+
+pub enum CellRead {
+    Value(ValueRef),
+    Refused(Refusal),
+}
+
+impl Table {
+    // The complete rows of a stream.
+    pub fn num_rows(self, stream: &[u8]) -> Counted
+        ensures { λ r. ⌜ countedAs r ≡ numRowsAnswer self (now (stream .entry)) ⌝ }
+    {
+        if MAX_BYTES < stream.len() {
+            return Counted::Refused(Refusal::OverSize);
+        }
+        let verdict = layout::judge(self, MAX_COLUMNS);
+        if let Verdict::Refused(refusal) = verdict {
+            return Counted::Refused(refusal);
+        }
+        let arrays = layout::layout_of(self);
+        let rows = rows_of(arrays.row_size, stream.len());
+        if MAX_ROWS < rows {
+            return Counted::Refused(Refusal::TooManyRows);
+        }
+        Counted::Count(rows)
+    }
+
+    pub fn read_cell(self, stream: &[u8], row: usize, column: usize) -> CellRead
+        ensures { λ r. ⌜ cellReadAs r ≡ readCellAnswer self (now (stream .entry)) row column ⌝ }
+    {
+        let counted = self.num_rows(stream);
+        match counted {
+            Counted::Refused(refusal) => CellRead::Refused(refusal),
+            Counted::Count(rows) => {
+                if rows <= row {
+                    return CellRead::Refused(Refusal::OutsideTable);
+                }
+                if self.count <= column {
+                    return CellRead::Refused(Refusal::OutsideTable);
+                }
+                CellRead::Value(cell_in(self, rows, row, column, stream))
+            }
+        }
+    }
+
+    // The cells row by row, into two lent slices.
+    pub fn read_rows(self, stream: &[u8], kinds: &mut [u8], numbers: &mut [i32]) -> Counted
+        ensures { λ r. ⌜ (countedAs r, (now (kinds .exit), now (numbers .exit))) ≡ readRowsOutcome self (now (stream .entry)) (now (kinds .entry)) (now (numbers .entry)) ⌝ }
+    {
+        let counted = self.num_rows(stream);
+        match counted {
+            Counted::Refused(refusal) => Counted::Refused(refusal),
+            Counted::Count(rows) => {
+                let cells = rows * self.count;
+                if kinds.len() < cells {
+                    return Counted::Refused(Refusal::OutputRoom);
+                }
+                if numbers.len() < cells {
+                    return Counted::Refused(Refusal::OutputRoom);
+                }
+                read_columns(
+                    self,
+                    rows,
+                    stream,
+                    &mut kinds[0..cells],
+                    &mut numbers[0..cells],
+                );
+                Counted::Count(cells)
+            }
+        }
+    }
+}
+
+fn rows_of(row_size: usize, bytes: usize) -> usize
+    ensures { λ r. ⌜ r ≡ (if «row_size» =? 0 then 0 else bytes / «row_size») ⌝ }
+{
+    if row_size == 0 {
+        return 0;
+    }
+    bytes / row_size
+}
+
+// The cell at a row and a column, whose bytes lie within the complete rows.
+fn cell_in(table: Table, rows: usize, row: usize, column: usize, stream: &[u8]) -> ValueRef
+    requires { ⌜ Sound table × (rows ≤ 65536) × (row < rows) × (column < table .count) ⌝ }
+    ensures { λ r. ⌜ cellAs r ≡ cellAt (typesOf table) (table .«long_string_refs») rows (now (stream .entry)) row column ⌝ }
+{
+    let arrays = layout::layout_of(table);
+    let start = arrays.starts[column];
+    let width = arrays.widths[column];
+    layout::form_at(table, column).read_value(stream, rows * start + row * width)
+}
+
+// Reads the columns one after the other.
+fn read_columns(table: Table, rows: usize, stream: &[u8], kinds: &mut [u8], numbers: &mut [i32])
+    requires { ⌜ Sound table × (rows ≤ 65536) × (rows * rowSize (typesOf table) (table .«long_string_refs») ≤ length (now stream)) × (length (now kinds) ≡ rows * table .count) × (length (now numbers) ≡ rows * table .count) ⌝ }
+    ensures { λ r. ⌜ (now (kinds .exit) ≡ rowByRow (λ i c. cellAt (typesOf table) (table .«long_string_refs») rows (now (stream .entry)) i c .0) rows (table .count)) × (now (numbers .exit) ≡ rowByRow (λ i c. cellAt (typesOf table) (table .«long_string_refs») rows (now (stream .entry)) i c .1) rows (table .count)) ⌝ }
+{
+    let count = table.count;
+    let arrays = layout::layout_of(table);
+    let mut c = 0;
+    while c < count {
+        let start = rows * arrays.starts[c];
+        let run = Stride {
+            column: c,
+            step: count,
+            rows,
+        };
+        read_column(
+            layout::form_at(table, c),
+            stream,
+            start,
+            kinds,
+            numbers,
+            run,
+        );
+        c += 1;
+    }
+}
+
+// Settles the form once for the whole column: each call is compiled for its form alone.
+fn read_column(
+    form: CellForm,
+    stream: &[u8],
+    start: usize,
+    kinds: &mut [u8],
+    numbers: &mut [i32],
+    run: Stride,
+)
+    requires { ⌜ Held form (now stream) start (now kinds) (now numbers) run ⌝ }
+    ensures { λ r. ⌜ (now (kinds .exit) ≡ strided (run .column) (run .step) (map (λ i. formCell form (now (stream .entry)) start i .0) (from 0 (run .rows))) (now (kinds .entry))) × (now (numbers .exit) ≡ strided (run .column) (run .step) (map (λ i. formCell form (now (stream .entry)) start i .1) (from 0 (run .rows))) (now (numbers .entry))) ⌝ }
+{
+    match form {
+        CellForm::Int16 => read_cells(CellForm::Int16, stream, start, kinds, numbers, run),
+        CellForm::Int32 => read_cells(CellForm::Int32, stream, start, kinds, numbers, run),
+        CellForm::ShortRef => read_cells(CellForm::ShortRef, stream, start, kinds, numbers, run),
+        CellForm::LongRef => read_cells(CellForm::LongRef, stream, start, kinds, numbers, run),
+        CellForm::Binary => read_cells(CellForm::Binary, stream, start, kinds, numbers, run),
+    }
+}
+
+fn read_cells(
+    form: CellForm,
+    stream: &[u8],
+    start: usize,
+    kinds: &mut [u8],
+    numbers: &mut [i32],
+    run: Stride,
+)
+    requires { ⌜ Held form (now stream) start (now kinds) (now numbers) run ⌝ }
+    ensures { λ r. ⌜ (now (kinds .exit) ≡ strided (run .column) (run .step) (map (λ i. formCell form (now (stream .entry)) start i .0) (from 0 (run .rows))) (now (kinds .entry))) × (now (numbers .exit) ≡ strided (run .column) (run .step) (map (λ i. formCell form (now (stream .entry)) start i .1) (from 0 (run .rows))) (now (numbers .entry))) ⌝ }
+{
+    let width = form.width();
+    let step = run.step;
+    let rows = run.rows;
+    let mut cell = run.column;
+    let mut at = start;
+    let mut row = 0;
+    while row < rows {
+        let end = at + width;
+        let value = form.read_value(&stream[at..end], 0);
+        kinds[cell] = value.kind();
+        numbers[cell] = value.number();
+        cell += step;
+        at = end;
+        row += 1;
+    }
+}

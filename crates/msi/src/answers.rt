@@ -2,8 +2,8 @@
 use common::Place;
 use common::Refusal;
 ghost use mathlib.Core.Path.{_≡_};
-ghost use Rattle.common.specs.Refusals.{numberOf, whereOf};
-ghost use Rattle.msi.specs.Answers.{refusalAt, noRefusal};
+ghost use Rattle.common.specs.Refusals.{numberOf, whereOf, refusedBy};
+ghost use Rattle.msi.specs.Answers.{refusalAt, noRefusal, countIn};
 
 // `place` is 0 where there is none, 1 for a column, 2 for a cell.
 #[repr(C)]
@@ -96,4 +96,41 @@ pub struct TakeAnswer {
 pub struct Reference {
     pub refused: Refused,
     pub value: i32,
+}
+
+// A cell's kind (0 Null, 1 Int, 2 Str, 3 Binary) and number.
+#[repr(C)]
+pub struct CellAnswer {
+    pub refused: Refused,
+    pub kind: u8,
+    pub number: i32,
+}
+
+// A column, or one being made: its type (0 Int16, 1 Int32, 2 Str, any other Binary) with the maximum of a Str, its marks, and
+// its range, which counts where `has_range` is set.
+#[repr(C)]
+pub struct ColumnParts {
+    pub coltype: u32,
+    pub max_len: u32,
+    pub is_localizable: bool,
+    pub is_nullable: bool,
+    pub is_primary_key: bool,
+    pub has_range: bool,
+    pub min: i32,
+    pub max: i32,
+}
+
+#[repr(C)]
+pub struct ColumnAnswer {
+    pub refused: Refused,
+    pub column: ColumnParts,
+}
+
+pub(crate) fn refused_count(why: Refusal) -> Count
+    ensures { λ r. ⌜ r ≡ countIn (refusedBy why) ⌝ }
+{
+    Count {
+        refused: told(why),
+        value: 0,
+    }
 }

@@ -3,3 +3,4 @@
 mod answers;
 mod names;
 mod pool;
+mod tables;

@@ -5,6 +5,7 @@ use crate::answers::PoolAnswer;
 use crate::answers::Reference;
 use crate::answers::TakeAnswer;
 use crate::answers::none;
+use crate::answers::refused_count;
 use crate::answers::told;
 use common::Refusal;
 use stringpool::Counted;
@@ -220,15 +221,6 @@ pub extern "C" fn strandroost_refcount(
 {
     let was = state(pool);
     from_counted(was.refcount(lengths, counts, text, number))
-}
-
-fn refused_count(why: Refusal) -> Count
-    ensures { λ r. ⌜ r ≡ countIn (refusedBy why) ⌝ }
-{
-    Count {
-        refused: told(why),
-        value: 0,
-    }
 }
 
 // A part of the text room, copied to the output whole or not at all.

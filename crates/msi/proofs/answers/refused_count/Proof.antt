@@ -1,6 +1,6 @@
 use borrow.Author.Needs.{needs}
-use Rattle.msi.proofs.pool.refused_count.Statement.{statement}
-use Rattle.msi.proofs.pool.refused_count.Tie as tie
+use Rattle.msi.proofs.answers.refused_count.Statement.{statement}
+use Rattle.msi.proofs.answers.refused_count.Tie as tie
 
 told-requires : tie.Need-told-requires
 told-requires c κs = search needs

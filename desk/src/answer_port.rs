@@ -1,4 +1,5 @@
 //! `desk/answer --port`: the port's archive answers the command language.
+#[allow(dead_code)]
 mod language;
 mod port_side;
 

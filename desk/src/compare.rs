@@ -3,6 +3,7 @@
 mod cases;
 #[allow(dead_code)]
 mod language;
+mod lent;
 mod pipes;
 mod random;
 
@@ -125,6 +126,28 @@ impl Run {
         case
     }
 
+    /// Commands on lent memory: the port against what is expected of it.
+    fn lent(&mut self, case: &lent::LentCase) {
+        let lines: Vec<String> = case.lines.iter().map(|(line, _)| line.clone()).collect();
+        let (krate, port) = self.both.ask(&lines);
+        for (at, answer) in port.iter().enumerate() {
+            let Some(expected) = lent::expected(case, at, &krate) else { continue };
+            // Of `held`, the rooms and the output are looked at by turns.
+            let same = match lines[at].as_str() {
+                "held" => answer.starts_with(&(expected.clone() + " ")) || answer.rsplit(' ').next() == Some(&expected),
+                _ => *answer == expected,
+            };
+            if !same {
+                println!("DIFFERED after {} commands that agreed", self.total);
+                println!("{}\n  expected: {expected}\n  port:     {answer}", lines[..=at].join("\n"));
+                std::process::exit(1);
+            }
+            *self.agreed.entry(format!("({})", case.kind)).or_default() += 1;
+            self.total += 1;
+        }
+        self.progress();
+    }
+
     fn summary(&self) {
         eprintln!();
         println!("{:>10}  command", "agreed");
@@ -197,6 +220,8 @@ fn main() -> std::io::Result<()> {
     let mut cases = Cases { random: random::Random::new(seed), scale: scale as usize };
     cases.all(&mut |case| run.add(case));
     run.flush();
+    let times = (20 * scale) as usize;
+    lent::cases(&mut cases.random, times, &mut |case| run.lent(&case));
     run.summary();
     Ok(())
 }

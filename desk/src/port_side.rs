@@ -114,15 +114,22 @@ fn check_answer(spec: &Spec, value: &Value) -> Answer {
     }
 }
 
-/// The bits that the calls on tables are handed; `:sMAX` above 255 has none, and is answered by the package.
-fn bits_of(layout: &Layout) -> Asked<Vec<i32>> {
-    let plain = |made| Spec { made, nullable: false, localizable: false, primary_key: false, range: None };
-    let columns = layout.columns.iter().map(|made| match made {
-        Made::Bits(bits) => Ok(*bits),
-        Made::Type(_) if layout.columns.len() > 64 => Ok(0x502),
-        Made::Type(coltype) => calls::column_bitfield(parts(&plain(*made), *coltype)),
-    });
-    columns.collect()
+/// The bits that the calls on tables are handed, or the refusal of a Str maximum that bits cannot say.
+fn bits_of(layout: &Layout) -> Result<Vec<i32>, Answer> {
+    let mut bits = Vec::new();
+    for (place, made) in layout.columns.iter().enumerate() {
+        bits.push(match *made {
+            Made::Bits(bits) => bits,
+            // Over 64 columns are refused first, whatever they are.
+            Made::Type(_) if layout.columns.len() > 64 => 0x502,
+            Made::Type(coltype) => {
+                let spec = Spec { made: *made, nullable: false, localizable: false, primary_key: false, range: None };
+                let told = |refusal: Refusal| Answer::Refused(refusal.number(), Place::Column(place));
+                calls::column_bitfield(parts(&spec, coltype)).map_err(told)?
+            }
+        });
+    }
+    Ok(bits)
 }
 
 impl PortSide {
@@ -188,16 +195,18 @@ impl PortSide {
             Command::Value(cell) => Answer::Value(self.value(cell)?),
             Command::Col(spec) => column_answer(&spec),
             Command::Check(spec, value) => check_answer(&spec, &value),
-            Command::Read(layout, stream) => {
-                let (rows, cells) = self.read(&layout, &stream)?;
-                Answer::Cells(rows, cells)
+            Command::Read(layout, stream) => self.on_bits(&layout, |side, bits| {
+                let (rows, cells) = side.read(bits, layout.long, &stream)?;
+                Ok(Answer::Cells(rows, cells))
+            })?,
+            Command::Rows(layout, stream) => self.on_bits(&layout, |side, bits| side.values(bits, layout.long, &stream))?,
+            Command::Place(layout, stream, row, column) => self.on_bits(&layout, |_, bits| {
+                let cell = calls::read_cell(bits, layout.long, &stream, row, column)?;
+                Ok(Answer::Cell(cell_out(cell.kind, cell.number)))
+            })?,
+            Command::Write(layout, rows, cells) => {
+                self.on_bits(&layout, |side, bits| side.write(bits, layout.long, rows, &cells))?
             }
-            Command::Rows(layout, stream) => self.values(&layout, &stream)?,
-            Command::Place(layout, stream, row, column) => {
-                let cell = calls::read_cell(&bits_of(&layout)?, layout.long, &stream, row, column)?;
-                Answer::Cell(cell_out(cell.kind, cell.number))
-            }
-            Command::Write(layout, rows, cells) => self.write(&layout, rows, &cells)?,
             Command::Lend(sizes) => self.lend(sizes),
             Command::Out(places) => {
                 self.places = places;
@@ -336,30 +345,34 @@ impl PortSide {
 
     // ------------------------------------------------------------ table
 
-    fn read(&mut self, layout: &Layout, stream: &[u8]) -> Asked<(usize, Vec<Cell>)> {
-        let bits = bits_of(layout)?;
-        let rows = calls::num_rows(&bits, layout.long, stream)?;
+    fn on_bits(&mut self, layout: &Layout, call: impl FnOnce(&mut PortSide, &[i32]) -> Asked<Answer>) -> Asked<Answer> {
+        match bits_of(layout) {
+            Ok(bits) => call(self, &bits),
+            Err(answer) => Ok(answer),
+        }
+    }
+
+    fn read(&mut self, bits: &[i32], long: bool, stream: &[u8]) -> Asked<(usize, Vec<Cell>)> {
+        let rows = calls::num_rows(bits, long, stream).unwrap_or(0);
         let places = self.places.unwrap_or(rows * bits.len());
         let (mut kinds, mut numbers) = (vec![FILL; places], vec![i32::from_le_bytes([FILL; 4]); places]);
-        let answer = calls::read_rows(&bits, layout.long, stream, &mut kinds, &mut numbers);
+        let answer = calls::read_rows(bits, long, stream, &mut kinds, &mut numbers);
         self.out = kinds.iter().copied().chain(numbers.iter().flat_map(|number| number.to_le_bytes())).collect();
         let cells = answer?;
         Ok((rows, kinds.iter().zip(&numbers).take(cells).map(|(kind, number)| cell_out(*kind, *number)).collect()))
     }
 
-    fn values(&mut self, layout: &Layout, stream: &[u8]) -> Asked<Answer> {
-        let (rows, cells) = self.read(layout, stream)?;
+    fn values(&mut self, bits: &[i32], long: bool, stream: &[u8]) -> Asked<Answer> {
+        let (rows, cells) = self.read(bits, long, stream)?;
         let values = cells.into_iter().map(|cell| self.value(cell)).collect::<Asked<Vec<Value>>>()?;
         Ok(Answer::Values(rows, values))
     }
 
-    fn write(&mut self, layout: &Layout, rows: usize, cells: &[Cell]) -> Asked<Answer> {
-        let bits = bits_of(layout)?;
+    fn write(&mut self, bits: &[i32], long: bool, rows: usize, cells: &[Cell]) -> Asked<Answer> {
         let (kinds, numbers): (Vec<u8>, Vec<i32>) =
             cells.iter().map(|cell| cell_in(*cell)).map(|cell| (cell.kind, cell.number)).unzip();
-        let bytes = self.with_bytes(4 * cells.len(), |out| {
-            calls::write_rows(&bits, layout.long, rows, &kinds, &numbers, out)
-        })?;
+        let bytes =
+            self.with_bytes(4 * cells.len(), |out| calls::write_rows(bits, long, rows, &kinds, &numbers, out))?;
         Ok(Answer::Bytes(self.out[..bytes].to_vec()))
     }
 }

@@ -44,7 +44,7 @@ pub number-below : (width m : ℕ) (s : List ℕ) (at : ℕ) → AreBytes s → 
 number-below width m s at b h = omega (arith, number-lt width s at b, pow-le-pow-right {n = 256} (lit< tt) h)
 
 -- what stands past a prefix
-number-past : (width : ℕ) (p s : List ℕ) (at n : ℕ) → length p ≡ n → numberAt width (p ++ s) (n + at) ≡ numberAt width s at
+pub number-past : (width : ℕ) (p s : List ℕ) (at n : ℕ) → length p ≡ n → numberAt width (p ++ s) (n + at) ≡ numberAt width s at
 number-past zero p s at n e = refl
 number-past (suc width) p s at n e =
     let here : getD (p ++ s) (n + at) 0 ≡ getD s at 0 = rw (← e) (getD-append-add p s at 0) in

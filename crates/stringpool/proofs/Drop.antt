@@ -10,7 +10,8 @@ use borrow.Author.Tests.{le-leb, lt-leb, eq-eqb, ne-eqb}
 use mathlib.Core.Bool.{Bool, true, false}
 use Rattle.stringpool.specs.inner.Entries.{Entry, Rooms, rooms, Fit, entriesOf, putBack}
 use Rattle.stringpool.specs.inner.Refs.{placeOf}
-use Rattle.stringpool.specs.inner.Drop.{judgeOf, none, downAt, DownIs}
+use Rattle.stringpool.specs.inner.Drop.{none, downAt, DownIs}
+use Rattle.stringpool.specs.inner.Sound.{judgeOf}
 use Rattle.common.specs.Choice.{if_then_else_}
 use Rattle.common.specs.Answers.{Answer, gives, refused, nowhere, outcome}
 use Rattle.stringpool.specs.Pool.{entry}
@@ -85,5 +86,5 @@ module _ (p : StringPool) (r : ℤ) (w : Rooms) (fit : Fit (p .«num_strings») 
         ∙ at (gives (p, house.putBack p w (downAt es (k .0)))) (simp (there, f))
 
 -- on a pool that is judged sound; the number came through a struct as r'
-pub drop-sound : (p : StringPool) (r' r : ℤ) (w : Rooms) (x : Answer StringPool × Rooms) → r' ≡ r → judgeOf p w ≡ judged.Sound → x ≡ Out p r' w → x ≡ dropOutcome p w r
+pub drop-sound : (p : StringPool) (r' r : ℤ) (w : Rooms) (x : Answer StringPool × Rooms) → r' ≡ r → {u : ℕ} → judgeOf p w ≡ judged.Sound u → x ≡ Out p r' w → x ≡ dropOutcome p w r
 drop-sound p r' r w x e j d = d ∙ ap (λ (y : ℤ). Out p y w) e ∙ judge-passed p w w (onReference r (dropAt p w)) j

@@ -4,7 +4,7 @@ use Prim.Native.Nat.{ℕ, zero, suc, _+_, _-_, _≤_, _<_, max, min}
 use native.Mathlib.Omega.{arith}
 use mathlib.Core.Bool.{Bool, true, false, not, _&&_, _||_}
 use mathlib.Core.List.{List, [], _∷_, _++_, map}
-use lib.ListN.{length, take, drop, getD, set, replicate, length-append, length-replicate, length-map, length-drop, length-set}
+use lib.ListN.{length, take, drop, getD, set, replicate, length-append, length-replicate, length-map, length-drop, length-set, List·getD-eq-default}
 use lib.Seq.{length-take-le}
 use lib.IntN.{ℤ, pos, negsuc}
 use lib.Dec.{ltb, leb, eqb}
@@ -15,25 +15,23 @@ use Rattle.common.specs.Refusals.{refusedBy}
 use Rattle.common.specs.Lists.{_over_, total}
 use Rattle.stringpool.specs.Pool.{Entry, entry, Rooms, rooms, cut, texts, all, free, entryRoom, sound, onSound}
 use Rattle.stringpool.specs.Refs.{onReference, referenceTo, referenceAnswer}
-use Rattle.stringpool.specs.Show.{showAnswer, refcountAnswer, orEmpty, judgedAs, countedAs}
+use Rattle.stringpool.specs.Show.{showAnswer, refcountAnswer, orEmpty}
 use Rattle.stringpool.specs.inner.Refs.{placeOf}
-use Rattle.stringpool.specs.inner.Sound.{smallB, allSmall, sumsB, soundB}
-use Rattle.stringpool.specs.inner.Entries.{entriesOf, putBack, lengthsOf, countsOf}
-use Rattle.stringpool.specs.inner.Drop.{judgeOf, none}
-use Rattle.stringpool.specs.inner.Show.{entryAt, shownBy, showOf, inRange, bothJudged, showRefusal, countedBy, refcountOf, partAt, countAt}
+use Rattle.stringpool.specs.inner.Sound.{smallB, allSmall, sumsB, fitsB, soundB, judgeOf}
+use Rattle.stringpool.specs.inner.Entries.{Fit, entriesOf, putBack, lengthsOf, countsOf}
+use Rattle.stringpool.specs.inner.Drop.{none}
+use Rattle.stringpool.specs.inner.Show.{partAt, countAt}
 use Rattle.stringpool.specs.declared.pool.StringPool.{StringPool}
 use Rattle.common.specs.declared.refusal.Refusal.{Refusal}
 use Rattle.common.specs.declared.refusal.Refusal.the-variants.{OverSize, Unsound, ReferenceRange, DropPastEnd, CountZero}
 use Rattle.stringpool.specs.declared.judge.Judged.{Judged}
-use Rattle.stringpool.specs.declared.shows.Counted.{Counted}
 use Rattle.stringpool.specs.declared.refs.EntryPlace.{EntryPlace}
 use Rattle.stringpool.specs.declared.refs.Placed.{Placed}
 use Rattle.stringpool.specs.declared.refs.Placed.the-variants.{At, Outside}
-use Rattle.stringpool.proofs.Sound.{SoundFit, sound-fit, judged-sound}
-use Rattle.stringpool.proofs.Show.{entry-part, show-judged}
+use Rattle.stringpool.proofs.Sound.{SoundFit, sound-fit, Judging, judging}
+use Rattle.stringpool.proofs.Entries.{entry-at, length-entries}
 use Rattle.stringpool.specs.Pool as house
 use Rattle.stringpool.specs.declared.judge.Judged.the-variants as judged
-use Rattle.stringpool.specs.declared.shows.Counted.the-variants as counted
 
 -- ---- soundness
 
@@ -67,15 +65,16 @@ leb-min n a b = go (ltb a n) (ltb b n) refl refl
     go false true e f = lt-leb n (min a b) (omega (arith, ltb-true b n f))
     go false false e f = le-leb n (min a b) (omega (arith, ltb-false a n e, ltb-false b n f))
 
-sound-tests : (a b c d e f : Bool) → ((not a && not b) && not c && not d && f && e) ≡ (if a then false else (if b then false else (if c then false else (if d then false else (if e then f else false)))))
-sound-tests true b c d e f = refl
-sound-tests false true c d e f = refl
-sound-tests false false true d e f = refl
-sound-tests false false false true e f = refl
-sound-tests false false false false true true = refl
-sound-tests false false false false true false = refl
-sound-tests false false false false false true = refl
-sound-tests false false false false false false = refl
+-- 01's tests in one row, and the code's in its order
+sound-tests : (a b c x e f : Bool) → ((not a && not b) && not c && x && f && e) ≡ (if (if a then false else if b then false else if c then false else x) then (if e then f else false) else false)
+sound-tests true b c x e f = refl
+sound-tests false true c x e f = refl
+sound-tests false false true x e f = refl
+sound-tests false false false false e f = refl
+sound-tests false false false true true true = refl
+sound-tests false false false true true false = refl
+sound-tests false false false true false true = refl
+sound-tests false false false true false false = refl
 
 -- a later test need only agree where the test before it holds
 guard : (a f x y : Bool) → (f ≡ true → x ≡ y) → (a && f && x) ≡ (a && f && y)
@@ -83,32 +82,32 @@ guard true true x y h = h refl
 guard true false x y h = refl
 guard false f x y h = refl
 
-pub sound-same : (p : StringPool) (w : Rooms) → sound p w ≡ soundB p (w .lengths) (w .counts) (w .text)
-unfolding sound soundB
+pub sound-same : (p : StringPool) (w : Rooms) → sound p w ≡ soundB p w
+unfolding sound fitsB
 sound-same p w =
     let n : ℕ = p .«num_strings» in
     let ls : List ℕ = take n (w .lengths) in
     let cs : List ℕ = take n (w .counts) in
     let f : Bool = leb (total ls) (length (w .text)) in
+    let page : Bool = leb (p .codepage) 2147483647 in
     let small : Bool = all (λ (e : Entry). not (free e) || length (e .text) ≤? 65535) (cut ls cs (w .text)) in
-    guard (leb n (entryRoom w) && leb n 16777215 && leb (p .codepage) 2147483647) f small (allSmall ls cs)
+    guard (leb n (entryRoom w) && leb n 16777215 && page) f small (allSmall ls cs)
     (λ e. small-all ls cs (w .text) (leb-true (total ls) (length (w .text)) e))
-    ∙ ap (λ (x : Bool). x && leb n 16777215 && leb (p .codepage) 2147483647 && f && allSmall ls cs) (leb-min n (length (w .lengths)) (length (w .counts)))
-    ∙ ap₂ (λ (x y : Bool). (not (ltb (length (w .lengths)) n) && not (ltb (length (w .counts)) n)) && x && y && f && allSmall ls cs) (leb-not n 16777215) (leb-not (p .codepage) 2147483647)
-    ∙ sound-tests (ltb (length (w .lengths)) n) (ltb (length (w .counts)) n) (ltb 16777215 n) (ltb 2147483647 (p .codepage)) (allSmall ls cs) f
+    ∙ ap₂ (λ (x y : Bool). x && y && page && f && allSmall ls cs) (leb-min n (length (w .lengths)) (length (w .counts))) (leb-not n 16777215)
+    ∙ sound-tests (ltb (length (w .lengths)) n) (ltb (length (w .counts)) n) (ltb 16777215 n) page (allSmall ls cs) f
 
 -- what the judge decides
 abbrev pub byJudge : {A : Type 0} → Judged → Answer A → Answer A
-byJudge judged.Sound a = a
+byJudge (judged.Sound u) a = a
 byJudge (judged.Refused x) a = refusedBy x
 
 pub on-sound : {A : Type 0} (p : StringPool) (w : Rooms) (a : Answer A) → onSound p w a ≡ byJudge (judgeOf p w) a
 on-sound {A} p w a =
     ap (λ (b : Bool). if 268435455 <? length (w .text) then refused 22 nowhere else if not b then refused 24 nowhere else a) (sound-same p w)
-    ∙ go (ltb 268435455 (length (w .text))) (soundB p (w .lengths) (w .counts) (w .text))
+    ∙ go (ltb 268435455 (length (w .text))) (soundB p w)
   where
     go : (x y : Bool) → _≡_ {A = Answer A} (if x then refused 22 nowhere else if not y then refused 24 nowhere else a)
-        (byJudge (if x then judged.Refused OverSize else (if y then judged.Sound else judged.Refused Unsound)) a)
+        (byJudge (if x then judged.Refused OverSize else if y then judged.Sound (total (take (p .«num_strings») (w .lengths))) else judged.Refused Unsound) a)
     go true y = refl
     go false true = refl
     go false false = refl
@@ -117,7 +116,7 @@ on-sound {A} p w a =
 pub answer-refused : {A : Type 0} (p : StringPool) (w : Rooms) (x : Refusal) (a : Answer A) → judgeOf p w ≡ judged.Refused x → refusedBy x ≡ onSound p w a
 answer-refused p w x a e = sym (on-sound p w a ∙ ap (λ (j : Judged). byJudge j a) e)
 
-pub answer-passed : {A : Type 0} (p : StringPool) (w : Rooms) (a : Answer A) → judgeOf p w ≡ judged.Sound → a ≡ onSound p w a
+pub answer-passed : {A : Type 0} (p : StringPool) (w : Rooms) (a : Answer A) {u : ℕ} → judgeOf p w ≡ judged.Sound u → a ≡ onSound p w a
 answer-passed p w a e = sym (on-sound p w a ∙ ap (λ (j : Judged). byJudge j a) e)
 
 -- a call that writes to lent memory, by the judge: refused, with the memory as it was, or on
@@ -125,7 +124,7 @@ module _ {A W : Type 0} (p : StringPool) (w : Rooms) (was : W) (a : Answer (A ×
   pub judge-refused : (x : Refusal) → judgeOf p w ≡ judged.Refused x → _≡_ {A = Answer A × W} (refusedBy x, was) (outcome was (onSound p w a))
   judge-refused x e = sym (ap (outcome was) (on-sound p w a ∙ ap (λ (j : Judged). byJudge j a) e))
 
-  pub judge-passed : judgeOf p w ≡ judged.Sound → outcome was a ≡ outcome was (onSound p w a)
+  pub judge-passed : {u : ℕ} → judgeOf p w ≡ judged.Sound u → outcome was a ≡ outcome was (onSound p w a)
   judge-passed e = sym (ap (outcome was) (on-sound p w a ∙ ap (λ (j : Judged). byJudge j a) e))
 
 -- and what the place of a reference does
@@ -181,70 +180,96 @@ put-same p w es =
 
 -- ---- show and count
 
-pub show-house : (p : StringPool) (r : ℤ) (w : Rooms) → showOf p r w ≡ orEmpty (showAnswer p w r)
-show-house p r w =
-    go (judgeOf p w) (placeOf r)
-    ∙ ap (λ (a : Answer (List ℕ)). orEmpty (byJudge (judgeOf p w) a)) (sym (on-reference r at))
-    ∙ ap orEmpty (sym (on-sound p w (onReference r at)))
+-- a place's text and count, by the rooms
+module _ (p : StringPool) (w : Rooms) (fit : Fit (p .«num_strings») w) (k : ℕ) where
+  abbrev n : ℕ
+  n = p .«num_strings»
+
+  part-same : partAt n (w .lengths) (w .text) k ≡ getD (entriesOf n w) k none .text
+  part-same = go (leb n k) refl
+    where
+      go : (b : Bool) → leb n k ≡ b → (if b then [] else take (getD (w .lengths) k 0) (drop (total (take k (w .lengths))) (w .text))) ≡ getD (entriesOf n w) k none .text
+      go true e = sym (ap (λ (x : Entry). x .text) (List·getD-eq-default (entriesOf n w) none (omega (arith, length-entries n w fit, leb-true n k e))))
+      go false e = sym (ap (λ (x : Entry). x .text) (entry-at n w fit k (leb-false n k e)))
+
+  count-same : countAt n (w .counts) k ≡ getD (entriesOf n w) k none .count
+  count-same = go (leb n k) refl
+    where
+      go : (b : Bool) → leb n k ≡ b → (if b then 0 else getD (w .counts) k 0) ≡ getD (entriesOf n w) k none .count
+      go true e = sym (ap (λ (x : Entry). x .count) (List·getD-eq-default (entriesOf n w) none (omega (arith, length-entries n w fit, leb-true n k e))))
+      go false e = sym (ap (λ (x : Entry). x .count) (entry-at n w fit k (leb-false n k e)))
+
+-- a reference's place leads on to the same
+on-same : {A : Type 0} (r : ℤ) (f g : ℕ → Answer A) → ((k : ℕ) → f k ≡ g k) → onReference r f ≡ onReference r g
+on-same r f g h = on-reference r f ∙ go (placeOf r) ∙ sym (on-reference r g)
   where
-    at : ℕ → Answer (List ℕ)
-    at k = gives (getD (entriesOf (p .«num_strings») w) k none .text)
+    go : (x : Placed) → byPlace x f ≡ byPlace x g
+    go Outside = refl
+    go (At k) = h (k .0)
 
-    go : (j : Judged) (x : Placed) → shownBy j (entryAt (entriesOf (p .«num_strings») w) x .text) ≡ orEmpty (byJudge j (byPlace x at))
-    go (judged.Refused y) x = refl
-    go judged.Sound Outside = refl
-    go judged.Sound (At k) = refl
-
-pub refusal-house : (p : StringPool) (r : ℤ) (w : Rooms) → judgedAs (showRefusal p r w) ≡ refusalOf (showAnswer p w r)
-refusal-house p r w =
-    go (judgeOf p w) (placeOf r)
-    ∙ ap (λ (a : Answer (List ℕ)). refusalOf (byJudge (judgeOf p w) a)) (sym (on-reference r at))
-    ∙ ap refusalOf (sym (on-sound p w (onReference r at)))
+-- whatever is shown, the refusal is that of the reference
+refusal-same : {A : Type 0} (r : ℤ) (f : ℕ → A) → refusalOf (referenceAnswer r) ≡ refusalOf (onReference r (λ k. gives (f k)))
+refusal-same r f =
+    ap refusalOf (on-reference r (λ k. gives (referenceTo k))) ∙ go (placeOf r) ∙ ap refusalOf (sym (on-reference r (λ k. gives (f k))))
   where
-    at : ℕ → Answer (List ℕ)
-    at k = gives (getD (entriesOf (p .«num_strings») w) k none .text)
+    go : (x : Placed) → refusalOf (byPlace x (λ k. gives (referenceTo k))) ≡ refusalOf (byPlace x (λ k. gives (f k)))
+    go Outside = refl
+    go (At k) = refl
 
-    go : (j : Judged) (x : Placed) → judgedAs (bothJudged j (inRange x)) ≡ refusalOf (byJudge j (byPlace x at))
-    go (judged.Refused y) x = refl
-    go judged.Sound Outside = refl
-    go judged.Sound (At k) = refl
+-- the answers of the calls; the number comes through a struct as r'
+module _ (p : StringPool) (w : Rooms) (r r' : ℤ) (back : r' ≡ r) where
+  abbrev Text : ℕ → List ℕ
+  Text k = getD (entriesOf (p .«num_strings») w) k none .text
 
-pub count-house : (p : StringPool) (r : ℤ) (w : Rooms) → countedAs (refcountOf p r w) ≡ refcountAnswer p w r
-count-house p r w =
-    go (judgeOf p w) (placeOf r)
-    ∙ ap (byJudge (judgeOf p w)) (sym (on-reference r at))
-    ∙ sym (on-sound p w (onReference r at))
-  where
-    at : ℕ → Answer ℕ
-    at k = gives (getD (entriesOf (p .«num_strings») w) k none .count)
+  abbrev Count : ℕ → ℕ
+  Count k = getD (entriesOf (p .«num_strings») w) k none .count
 
-    go : (j : Judged) (x : Placed) → countedAs (countedBy (bothJudged j (inRange x)) (entryAt (entriesOf (p .«num_strings») w) x .count)) ≡ byJudge j (byPlace x at)
-    go (judged.Refused y) x = refl
-    go judged.Sound Outside = refl
-    go judged.Sound (At k) = refl
-
--- the same, as the calls meet them: the number comes through a struct as r'
-module _ (p : StringPool) (w : Rooms) (r' r : ℤ) (e : r' ≡ r) where
   pub get-refused : (x : Refusal) → judgeOf p w ≡ judged.Refused x → _≡_ {A = List ℕ} [] (orEmpty (showAnswer p w r))
-  get-refused x j =
-      ap (λ (y : Judged). shownBy y (entryAt (entriesOf (p .«num_strings») w) (placeOf r) .text)) (sym j) ∙ show-house p r w
+  get-refused x j = ap orEmpty (answer-refused p w x (onReference r (λ k. gives (Text k))) j)
 
-  pub get-shown : judgeOf p w ≡ judged.Sound → (a : List ℕ) → a ≡ partAt (p .«num_strings») (w .lengths) (w .text) (placeOf r') → a ≡ orEmpty (showAnswer p w r)
+  pub get-shown : {u : ℕ} → judgeOf p w ≡ judged.Sound u → (a : List ℕ)
+      → a ≡ orEmpty (onReference r' (λ k. gives (partAt (p .«num_strings») (w .lengths) (w .text) k))) → a ≡ orEmpty (showAnswer p w r)
   get-shown j a q =
-      q ∙ ap (λ (x : Entry). x .text) (entry-part (p .«num_strings») w (sound-fit p w (judged-sound p w j) .fit) (placeOf r'))
-      ∙ ap (λ (y : Judged). shownBy y (entryAt (entriesOf (p .«num_strings») w) (placeOf r') .text)) (sym j)
-      ∙ show-house p r' w ∙ ap (λ (y : ℤ). orEmpty (showAnswer p w y)) e
+      q ∙ ap (λ (z : ℤ). orEmpty (onReference z (λ k. gives (partAt (p .«num_strings») (w .lengths) (w .text) k)))) back
+      ∙ ap orEmpty (on-same r _ _ (λ k. ap gives (part-same p w (judging p w j .all .fit) k)) ∙ answer-passed p w (onReference r (λ k. gives (Text k))) j)
 
-  pub refusal-is : (a : Judged) → a ≡ showRefusal p r' w → judgedAs a ≡ refusalOf (showAnswer p w r)
-  refusal-is a q = ap judgedAs q ∙ refusal-house p r' w ∙ ap (λ (y : ℤ). refusalOf (showAnswer p w y)) e
+  pub refusal-passed : {u : ℕ} → judgeOf p w ≡ judged.Sound u → refusalOf (referenceAnswer r') ≡ refusalOf (showAnswer p w r)
+  refusal-passed j =
+      ap (λ (z : ℤ). refusalOf (referenceAnswer z)) back ∙ refusal-same r Text ∙ ap refusalOf (answer-passed p w (onReference r (λ k. gives (Text k))) j)
 
-  pub count-refused : (x : Refusal) → showRefusal p r' w ≡ judged.Refused x → refusedBy x ≡ refcountAnswer p w r
-  count-refused x j =
-      ap (λ (y : Judged). countedAs (countedBy y (entryAt (entriesOf (p .«num_strings») w) (placeOf r') .count))) (sym j)
-      ∙ count-house p r' w ∙ ap (refcountAnswer p w) e
+  pub refusal-refused : (x : Refusal) → judgeOf p w ≡ judged.Refused x → refusedBy x ≡ refusalOf (showAnswer p w r)
+  refusal-refused x j = ap refusalOf (answer-refused p w x (onReference r (λ k. gives (Text k))) j)
 
-  pub count-shown : showRefusal p r' w ≡ judged.Sound → (n : ℕ) → n ≡ countAt (p .«num_strings») (w .counts) (placeOf r') → gives n ≡ refcountAnswer p w r
-  count-shown j n q =
-      ap gives (q ∙ ap (λ (x : Entry). x .count) (entry-part (p .«num_strings») w (sound-fit p w (judged-sound p w (show-judged p r' w j)) .fit) (placeOf r')))
-      ∙ ap (λ (y : Judged). countedAs (countedBy y (entryAt (entriesOf (p .«num_strings») w) (placeOf r') .count))) (sym j)
-      ∙ count-house p r' w ∙ ap (refcountAnswer p w) e
+  pub count-passed : {u : ℕ} → judgeOf p w ≡ judged.Sound u
+      → onReference r' (λ k. gives (countAt (p .«num_strings») (w .counts) k)) ≡ refcountAnswer p w r
+  count-passed j =
+      ap (λ (z : ℤ). onReference z (λ k. gives (countAt (p .«num_strings») (w .counts) k))) back
+      ∙ on-same r _ _ (λ k. ap gives (count-same p w (judging p w j .all .fit) k)) ∙ answer-passed p w (onReference r (λ k. gives (Count k))) j
+
+-- the refusal of a reference
+pub refused-outside : (r : ℤ) → placeOf r ≡ Outside → refused 8 nowhere ≡ refusalOf (referenceAnswer r)
+refused-outside r e = ap refusalOf (made-outside r e)
+
+pub refused-none : (r : ℤ) (k : EntryPlace) → placeOf r ≡ At k → gives tt ≡ refusalOf (referenceAnswer r)
+refused-none r k e = ap refusalOf (made-in r r refl k e)
+
+-- a reference that is out of range, past the end, or an entry's
+module _ {A : Type 0} (r : ℤ) (f : ℕ → Answer A) where
+  pub at-outside : placeOf r ≡ Outside → refused 8 nowhere ≡ onReference r f
+  at-outside e = sym (on-reference r f ∙ ap (λ (x : Placed). byPlace x f) e)
+
+  pub at-place : (k : EntryPlace) → placeOf r ≡ At k → f (k .0) ≡ onReference r f
+  at-place k e = sym (on-reference r f ∙ ap (λ (x : Placed). byPlace x f) e)
+
+module _ (n : ℕ) (ls cs ts : List ℕ) (k : ℕ) where
+  pub part-past : n ≤ k → _≡_ {A = List ℕ} [] (partAt n ls ts k)
+  part-past h = sym (ap (λ (b : Bool). if b then [] else take (getD ls k 0) (drop (total (take k ls)) ts)) (le-leb n k h))
+
+  pub part-in : k < n → take (getD ls k 0) (drop (total (take k ls)) ts) ≡ partAt n ls ts k
+  part-in h = sym (ap (λ (b : Bool). if b then [] else take (getD ls k 0) (drop (total (take k ls)) ts)) (lt-leb n k h))
+
+  pub count-past : n ≤ k → 0 ≡ countAt n cs k
+  count-past h = sym (ap (λ (b : Bool). if b then 0 else getD cs k 0) (le-leb n k h))
+
+  pub count-in : k < n → getD cs k 0 ≡ countAt n cs k
+  count-in h = sym (ap (λ (b : Bool). if b then 0 else getD cs k 0) (lt-leb n k h))

@@ -1,8 +1,9 @@
 pub mod Drop
 pub mod Entries
+pub mod Fast
 pub mod House
 pub mod Loads
-pub mod Show
+pub mod Look
 pub mod Signed
 pub mod Sound
 pub mod Splice

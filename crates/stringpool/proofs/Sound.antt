@@ -1,6 +1,6 @@
--- What soundness says, taken apart.
+-- What the judge's answer says, taken apart.
 use mathlib.Core.Path.{_≡_, refl, sym, ap, _∙_}
-use Prim.Native.Nat.{ℕ, _+_, _-_, _≤_, _<_}
+use Prim.Native.Nat.{ℕ, _≤_}
 use native.Mathlib.Omega.{arith}
 use mathlib.Core.Bool.{Bool, true, false}
 use mathlib.Core.List.{List}
@@ -9,92 +9,90 @@ use lib.Dec.{ltb, leb}
 use borrow.Author.Tests.{ltb-false, leb-true}
 use Rattle.common.specs.Choice.{if_then_else_}
 use Rattle.common.specs.Lists.{total}
-use Rattle.stringpool.specs.inner.Sound.{allSmall, sumsB, soundB}
+use Rattle.common.specs.declared.refusal.Refusal.{Refusal}
+use Rattle.common.specs.declared.refusal.Refusal.the-variants.{OverSize, Unsound}
+use Rattle.stringpool.specs.inner.Sound.{allSmall, sumsB, fitsB, soundB, judgeOf}
 use Rattle.stringpool.specs.inner.Entries.{Rooms, Fit}
-use Rattle.stringpool.specs.inner.Drop.{judgeOf}
 use Rattle.stringpool.specs.inner.Take.{judgeTake}
 use Rattle.stringpool.specs.declared.pool.StringPool.{StringPool}
 use Rattle.stringpool.specs.declared.judge.Judged.{Judged}
-use Rattle.common.specs.declared.refusal.Refusal.{Refusal}
-use Rattle.common.specs.declared.refusal.Refusal.the-variants.{OverSize, Unsound}
 use Rattle.stringpool.specs.declared.judge.Judged.the-variants as judged
+
+pub false-true : _≡_ {A = Bool} false true → ⊥
+false-true q = let y : _≡_ {A = ℕ} 0 1 = cc in omega arith
 
 -- a refusing test did not fire, and what follows it holds
 pub not-first : (b x : Bool) → (if b then false else x) ≡ true → (b ≡ false) × (x ≡ true)
-not-first true x e = let z : _≡_ {A = Bool} true false = sym e in (z, absurd (tf e))
-  where
-    tf : _≡_ {A = Bool} false true → ⊥
-    tf q = let y : _≡_ {A = ℕ} 0 1 = cc in omega arith
+not-first true x e = absurd (false-true e)
 not-first false x e = (refl, e)
 
 pub then-second : (b x : Bool) → (if b then x else false) ≡ true → (b ≡ true) × (x ≡ true)
 then-second true x e = (refl, e)
-then-second false x e = (e, absurd (tf e))
-  where
-    tf : _≡_ {A = Bool} false true → ⊥
-    tf q = let y : _≡_ {A = ℕ} 0 1 = cc in omega arith
+then-second false x e = absurd (false-true e)
+
+pub record Few (p : StringPool) (ls cs : List ℕ) : Type 0 where
+  pub lengths : p .«num_strings» ≤ length ls
+  pub counts : p .«num_strings» ≤ length cs
+  pub few : p .«num_strings» ≤ 16777215
+  pub page : p .codepage ≤ 2147483647
+
+pub fits-few : (p : StringPool) (ls cs : List ℕ) → fitsB p ls cs ≡ true → Few p ls cs
+unfolding fitsB
+fits-few p ls cs e =
+    let n : ℕ = p .«num_strings» in
+    let x₂ : Bool = leb (p .codepage) 2147483647 in
+    let x₁ : Bool = if ltb 16777215 n then false else x₂ in
+    let a = not-first (ltb (length ls) n) (if ltb (length cs) n then false else x₁) e in
+    let b = not-first (ltb (length cs) n) x₁ (a .1) in
+    let c = not-first (ltb 16777215 n) x₂ (b .1) in
+    record { lengths = ltb-false _ _ (a .0); counts = ltb-false _ _ (b .0); few = ltb-false _ _ (c .0); page = leb-true _ _ (c .1) }
 
 -- a sound pool's entries fit its rooms, and number at most 16,777,215
 pub record SoundFit (p : StringPool) (w : Rooms) : Type 0 where
   pub fit : Fit (p .«num_strings») w
   pub few : p .«num_strings» ≤ 16777215
-  pub page : p .codepage ≤ 0x7fff_ffff
+  pub page : p .codepage ≤ 2147483647
   pub small : allSmall (take (p .«num_strings») (w .lengths)) (take (p .«num_strings») (w .counts)) ≡ true
 
-pub sound-fit : (p : StringPool) (w : Rooms) → soundB p (w .lengths) (w .counts) (w .text) ≡ true → SoundFit p w
-unfolding soundB
+pub sound-fit : (p : StringPool) (w : Rooms) → soundB p w ≡ true → SoundFit p w
 sound-fit p w e =
     let n : ℕ = p .«num_strings» in
-    let x₄ : Bool = sumsB n (w .lengths) (w .counts) (length (w .text)) in
-    let x₃ : Bool = (if ltb 0x7fff_ffff (p .codepage) then false else x₄) in
-    let x₂ : Bool = (if ltb 16777215 n then false else x₃) in
-    let a = not-first (ltb (length (w .lengths)) n) (if ltb (length (w .counts)) n then false else x₂) e in
-    let b = not-first (ltb (length (w .counts)) n) x₂ (a .1) in
-    let c = not-first (ltb 16777215 n) x₃ (b .1) in
-    let d = not-first (ltb 0x7fff_ffff (p .codepage)) x₄ (c .1) in
-    let s = then-second (allSmall (take n (w .lengths)) (take n (w .counts))) (leb (total (take n (w .lengths))) (length (w .text))) (d .1) in
+    let a = then-second (fitsB p (w .lengths) (w .counts)) (sumsB n (w .lengths) (w .counts) (length (w .text))) e in
+    let f = fits-few p (w .lengths) (w .counts) (a .0) in
+    let s = then-second (allSmall (take n (w .lengths)) (take n (w .counts))) (leb (total (take n (w .lengths))) (length (w .text))) (a .1) in
     record {
-      fit = record {
-        lengths = ltb-false _ _ (a .0);
-        counts = ltb-false _ _ (b .0);
-        text = leb-true _ _ (s .1);
-      };
-      few = ltb-false _ _ (c .0);
-      page = ltb-false _ _ (d .0);
+      fit = record { lengths = f .lengths; counts = f .counts; text = leb-true _ _ (s .1) };
+      few = f .few;
+      page = f .page;
       small = s .0;
     }
 
--- a pool that is judged sound is
-pub judged-sound : (p : StringPool) (w : Rooms) → judgeOf p w ≡ judged.Sound → soundB p (w .lengths) (w .counts) (w .text) ≡ true
-judged-sound p w e = go (ltb 268435455 (length (w .text))) (soundB p (w .lengths) (w .counts) (w .text)) e
+-- what is known of a pool that is judged sound, with u bytes in use
+pub record Judging (p : StringPool) (w : Rooms) (u : ℕ) : Type 0 where
+  pub all : SoundFit p w
+  pub size : length (w .text) ≤ 268435455
+  pub used : u ≡ total (take (p .«num_strings») (w .lengths))
+
+refused-sound : {x : Refusal} {u : ℕ} → judged.Refused x ≡ judged.Sound u → ⊥
+refused-sound q = let y : _≡_ {A = ℕ} 0 1 = cc in omega arith
+
+same-used : {u v : ℕ} → judged.Sound u ≡ judged.Sound v → v ≡ u
+same-used q = cc
+
+pub judging : (p : StringPool) (w : Rooms) {u : ℕ} → judgeOf p w ≡ judged.Sound u → Judging p w u
+judging p w {u} e = go (ltb 268435455 (length (w .text))) (soundB p w) refl refl e
   where
-    no' : (x : Refusal) → judged.Refused x ≡ judged.Sound → ⊥
-    no' x q = let y : _≡_ {A = ℕ} 0 1 = cc in omega arith
+    go : (a b : Bool) → ltb 268435455 (length (w .text)) ≡ a → soundB p w ≡ b
+        → (if a then judged.Refused OverSize else if b then judged.Sound (total (take (p .«num_strings») (w .lengths))) else judged.Refused Unsound) ≡ judged.Sound u
+        → Judging p w u
+    go true b f g q = absurd (refused-sound q)
+    go false true f g q = record { all = sound-fit p w g; size = ltb-false _ _ f; used = same-used q }
+    go false false f g q = absurd (refused-sound q)
 
-    go : (a b : Bool) → (if a then judged.Refused OverSize else (if b then judged.Sound else judged.Refused Unsound)) ≡ judged.Sound → b ≡ true
-    go true b q = absurd (no' OverSize q)
-    go false true q = refl
-    go false false q = absurd (no' Unsound q)
-
--- a take that is judged sound has a text and a text room within the sizes
-pub take-judged : (p : StringPool) (w : Rooms) (t : List ℕ) → judgeTake p w t ≡ judged.Sound → (length t ≤ 268435455) × (judgeOf p w ≡ judged.Sound)
-take-judged p w t e = go (ltb 268435455 (length t)) refl e
+-- a take that is judged sound has a text within the sizes
+pub take-judged : (p : StringPool) (w : Rooms) (t : List ℕ) {u : ℕ} → judgeTake p w t ≡ judged.Sound u → (length t ≤ 268435455) × (judgeOf p w ≡ judged.Sound u)
+take-judged p w t {u} e = go (ltb 268435455 (length t)) refl e
   where
-    no' : (x : Refusal) → judged.Refused x ≡ judged.Sound → ⊥
-    no' x q = let y : _≡_ {A = ℕ} 0 1 = cc in omega arith
-
-    go : (a : Bool) → ltb 268435455 (length t) ≡ a → (if a then judged.Refused OverSize else judgeOf p w) ≡ judged.Sound → (length t ≤ 268435455) × (judgeOf p w ≡ judged.Sound)
-    go true f q = absurd (no' OverSize q)
+    go : (a : Bool) → ltb 268435455 (length t) ≡ a → (if a then judged.Refused OverSize else judgeOf p w) ≡ judged.Sound u → (length t ≤ 268435455) × (judgeOf p w ≡ judged.Sound u)
+    go true f q = absurd (refused-sound q)
     go false f q = (ltb-false 268435455 (length t) f, q)
-
-pub judged-size : (p : StringPool) (w : Rooms) → judgeOf p w ≡ judged.Sound → length (w .text) ≤ 268435455
-judged-size p w e = go (ltb 268435455 (length (w .text))) refl e
-  where
-    no' : (x : Refusal) → judged.Refused x ≡ judged.Sound → ⊥
-    no' x q = let y : _≡_ {A = ℕ} 0 1 = cc in omega arith
-
-    go : (a : Bool) → ltb 268435455 (length (w .text)) ≡ a
-        → (if a then judged.Refused OverSize else (if soundB p (w .lengths) (w .counts) (w .text) then judged.Sound else judged.Refused Unsound)) ≡ judged.Sound
-        → length (w .text) ≤ 268435455
-    go true f q = absurd (no' OverSize q)
-    go false f q = ltb-false 268435455 (length (w .text)) f

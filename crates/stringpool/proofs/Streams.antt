@@ -18,7 +18,7 @@ use Rattle.little_endian.proofs.Laws.{length-bytes, written}
 use Rattle.stringpool.specs.Pool.{Entry, Rooms, cut, entriesOf}
 use Rattle.stringpool.specs.Write.{shortOf, wide, entryBytes, markOf, poolBytes, dataBytes, writeAnswer}
 use Rattle.stringpool.specs.inner.Entries.{Fit}
-use Rattle.stringpool.specs.inner.Write.{entriesBytes, poolStream, dataStream}
+use Rattle.stringpool.specs.inner.Write.{entriesBytes, poolStream}
 use Rattle.stringpool.specs.declared.pool.StringPool.{StringPool}
 use Rattle.stringpool.proofs.Entries.{both, texts-cut}
 
@@ -148,5 +148,7 @@ module _ (p : StringPool) (w : Rooms) (fit : Fit (p .«num_strings») w) where
   pool-same =
       ap (λ (x : List ℕ). bytesOf 4 (markOf p) ++ x) (entries-same (take (p .«num_strings») (w .lengths)) (take (p .«num_strings») (w .counts)) (w .text) (fit .text))
 
-  pub data-same : dataStream (p .«num_strings») (w .lengths) (w .text) ≡ dataBytes p w
-  data-same = sym (texts-cut (take (p .«num_strings») (w .lengths)) (take (p .«num_strings») (w .counts)) (w .text) (both (p .«num_strings») w fit))
+  pub data-same : {u : ℕ} → u ≡ total (take (p .«num_strings») (w .lengths)) → take u (w .text) ≡ dataBytes p w
+  data-same e =
+      ap (λ (k : ℕ). take k (w .text)) e
+      ∙ sym (texts-cut (take (p .«num_strings») (w .lengths)) (take (p .«num_strings») (w .counts)) (w .text) (both (p .«num_strings») w fit))

@@ -14,7 +14,8 @@ use borrow.Author.Tests.{eq-eqb, ne-eqb, eqb-true, eqb-false, ltb-true, lt-ltb, 
 use Rattle.common.specs.Choice.{if_then_else_, _<?_, _≤?_}
 use Rattle.common.specs.Lists.{total}
 use Rattle.stringpool.specs.inner.Entries.{Entry, Rooms, rooms, Fit, cut, entriesOf, texts, lengthsOf, countsOf, putBack}
-use Rattle.stringpool.specs.inner.Drop.{none, judgeOf}
+use Rattle.stringpool.specs.inner.Drop.{none}
+use Rattle.stringpool.specs.inner.Sound.{judgeOf}
 use Rattle.stringpool.specs.inner.Refs.{refOf}
 use Rattle.common.specs.Answers.{Answer, gives, refused, nowhere, outcome}
 use Rattle.common.specs.Refusals.{refusedBy}
@@ -330,7 +331,7 @@ pub take-refused : (p : StringPool) (t : List ℕ) (w : Rooms) (x : Refusal) →
 take-refused p t w x e =
     sym (ap (outcome w) (on-take p w t ∙ ap (λ (j : Judged). byJudge j (takeAt p w t (firstFreeOrEqual t (entriesOf (p .«num_strings») w)))) e))
 
-pub take-sound : (p : StringPool) (t : List ℕ) (w : Rooms) (a : Taken) (left : Rooms) → judgeTake p w t ≡ judged.Sound → ChosenIs p t (chosenOf p w t) w a left
+pub take-sound : (p : StringPool) (t : List ℕ) (w : Rooms) (a : Taken) (left : Rooms) → {u : ℕ} → judgeTake p w t ≡ judged.Sound u → ChosenIs p t (chosenOf p w t) w a left
     → (takenAs a, left) ≡ takeOutcome firstFreeOrEqual p w t
 take-sound p t w a left e d =
     let es : List Entry = entriesOf (p .«num_strings») w in

@@ -8,9 +8,9 @@ use Rattle.common.specs.Refusals.{refusedBy}
 use Rattle.stringpool.specs.Pool.{Entry, entry, Rooms, entriesOf, onSound}
 use Rattle.stringpool.specs.Refs.{onReference}
 use Rattle.stringpool.specs.declared.pool.StringPool.{StringPool}
-use Rattle.stringpool.specs.declared.judge.Judged.{Judged}
+use Rattle.stringpool.specs.declared.shows.Showable.{Showable}
 use Rattle.stringpool.specs.declared.shows.Counted.{Counted}
-use Rattle.stringpool.specs.declared.judge.Judged.the-variants as judged
+use Rattle.stringpool.specs.declared.shows.Showable.the-variants as showable
 use Rattle.stringpool.specs.declared.shows.Counted.the-variants as counted
 
 -- past the last entry: no text, and count 0
@@ -25,9 +25,9 @@ abbrev pub orEmpty : Answer (List ℕ) → List ℕ
 orEmpty (gives t) = t
 orEmpty (refused n at) = []
 
-abbrev pub judgedAs : Judged → Answer (Unit {0})
-judgedAs judged.Sound = gives tt
-judgedAs (judged.Refused x) = refusedBy x
+abbrev pub showableAs : Showable → Answer (Unit {0})
+showableAs showable.Yes = gives tt
+showableAs (showable.Refused x) = refusedBy x
 
 abbrev pub countedAs : Counted → Answer ℕ
 countedAs (counted.Is n) = gives n

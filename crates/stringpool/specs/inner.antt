@@ -1,7 +1,10 @@
 -- What the contracts of private functions say; the public ones cite nothing of it.
 pub mod Drop
 pub mod Entries
+pub mod Halved
 pub mod Load
+pub mod Look
+pub mod Passing
 pub mod Refs
 pub mod Show
 pub mod Sound

@@ -1,9 +1,11 @@
 // The string pool: entries with a reference count each, their texts end to end in a lent text room.
+mod adding;
 mod choice;
 mod drops;
 mod entry;
 mod judge;
 mod load;
+mod looks;
 mod pages;
 mod pool;
 mod refs;
@@ -13,12 +15,12 @@ mod text;
 mod writes;
 
 pub use crate::drops::Dropped;
-pub use crate::judge::Judged;
 pub use crate::load::Loaded;
 pub use crate::pages::Pooled;
 pub use crate::pool::StringPool;
 pub use crate::refs::Made;
 pub use crate::refs::StringRef;
 pub use crate::shows::Counted;
+pub use crate::shows::Showable;
 pub use crate::takes::Taken;
 pub use crate::writes::Written;

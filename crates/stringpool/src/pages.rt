@@ -33,7 +33,7 @@ impl StringPool {
         let j = judge(self, lengths, counts, text);
         match j {
             Judged::Refused(why) => Pooled::Refused(why),
-            Judged::Sound => with_page(self, codepage),
+            Judged::Sound(_) => with_page(self, codepage),
         }
     }
 }

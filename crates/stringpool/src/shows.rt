@@ -7,17 +7,23 @@ use crate::refs::StringRef;
 use crate::text::start_of;
 use common::Refusal;
 ghost use mathlib.Core.Path.{_≡_};
-ghost use Prim.Native.Nat.{_+_, _≤_};
+ghost use Prim.Native.Nat.{_≤_};
 ghost use lib.ListN.{length, take};
 ghost use Rattle.common.specs.Lists.{total};
-ghost use Rattle.stringpool.specs.inner.Refs.{placeOf};
-ghost use Rattle.stringpool.specs.inner.Entries.{rooms};
-ghost use Rattle.stringpool.specs.inner.Show.{showRefusal, partAt, countAt};
-ghost use Rattle.common.specs.Answers.{refusalOf};
-ghost use Rattle.stringpool.specs.Show.{showAnswer, refcountAnswer, orEmpty, judgedAs, countedAs};
+ghost use Rattle.common.specs.Answers.{gives, refusalOf};
+ghost use Rattle.stringpool.specs.Pool.{rooms};
+ghost use Rattle.stringpool.specs.Refs.{onReference, referenceAnswer};
+ghost use Rattle.stringpool.specs.Show.{showAnswer, refcountAnswer, orEmpty, showableAs, countedAs};
+ghost use Rattle.stringpool.specs.inner.Show.{partAt, countAt};
 
 pub enum Counted {
     Is(u16),
+    Refused(Refusal),
+}
+
+// Whether a show is refused.
+pub enum Showable {
+    Yes,
     Refused(Refusal),
 }
 
@@ -29,15 +35,37 @@ impl StringPool {
         let j = judge(self, lengths, counts, text);
         match j {
             Judged::Refused(_) => &text[..0],
-            Judged::Sound => get_sound(self.num_strings, lengths, text, StringRef(number)),
+            Judged::Sound(_) => get_sound(self.num_strings, lengths, text, StringRef(number)),
+        }
+    }
+
+    // The refusal of showing a reference number, or none.
+    pub fn get_refusal(self, lengths: &[u32], counts: &[u16], text: &[u8], number: i32) -> Showable
+        ensures { λ a. ⌜ showableAs a ≡ refusalOf (showAnswer self (rooms (now (lengths .entry)) (now (counts .entry)) (now (text .entry))) number) ⌝ }
+    {
+        let j = judge(self, lengths, counts, text);
+        match j {
+            Judged::Refused(why) => Showable::Refused(why),
+            Judged::Sound(_) => in_range(StringRef(number)),
+        }
+    }
+
+    // How many references count on a number, 0 past the end.
+    pub fn refcount(self, lengths: &[u32], counts: &[u16], text: &[u8], number: i32) -> Counted
+        ensures { λ a. ⌜ countedAs a ≡ refcountAnswer self (rooms (now (lengths .entry)) (now (counts .entry)) (now (text .entry))) number ⌝ }
+    {
+        let j = judge(self, lengths, counts, text);
+        match j {
+            Judged::Refused(why) => Counted::Refused(why),
+            Judged::Sound(_) => count_sound(self.num_strings, counts, StringRef(number)),
         }
     }
 }
 
-// The text of r in a sound pool of n entries.
+// The text of r among n entries; the empty part where r is past the end or out of range.
 fn get_sound<'a>(n: usize, lengths: &[u32], text: &'a [u8], r: StringRef) -> &'a [u8]
     requires { ⌜ (n ≤ length (now lengths)) × (total (take n (now lengths)) ≤ length (now text)) ⌝ }
-    ensures { λ a. ⌜ now a ≡ partAt n (now (lengths .entry)) (now (text .entry)) (placeOf (r .0)) ⌝ }
+    ensures { λ a. ⌜ now a ≡ orEmpty (onReference (r .0) (λ k. gives (partAt n (now (lengths .entry)) (now (text .entry)) k))) ⌝ }
 {
     let Placed::At(place) = r.place() else {
         return &text[..0];
@@ -51,54 +79,28 @@ fn get_sound<'a>(n: usize, lengths: &[u32], text: &'a [u8], r: StringRef) -> &'a
     &text[start..end]
 }
 
-impl StringPool {
-    // The refusal of showing a reference number, or none.
-    pub fn get_refusal(self, lengths: &[u32], counts: &[u16], text: &[u8], number: i32) -> Judged
-        ensures { λ a. ⌜ judgedAs a ≡ refusalOf (showAnswer self (rooms (now (lengths .entry)) (now (counts .entry)) (now (text .entry))) number) ⌝ }
-    {
-        show_refusal(self, lengths, counts, text, StringRef(number))
-    }
-}
-
-// The same, in the private terms.
-fn show_refusal(p: StringPool, lengths: &[u32], counts: &[u16], text: &[u8], r: StringRef) -> Judged
-    ensures { λ a. ⌜ a ≡ showRefusal p (r .0) (rooms (now (lengths .entry)) (now (counts .entry)) (now (text .entry))) ⌝ }
+// Whether a reference number is in range.
+fn in_range(r: StringRef) -> Showable
+    ensures { λ a. ⌜ showableAs a ≡ refusalOf (referenceAnswer (r .0)) ⌝ }
 {
-    let j = judge(p, lengths, counts, text);
-    if let Judged::Refused(why) = j {
-        return Judged::Refused(why);
-    }
     let placed = r.place();
     match placed {
-        Placed::Outside => Judged::Refused(Refusal::ReferenceRange),
-        Placed::At(_) => Judged::Sound,
-    }
-}
-
-impl StringPool {
-    // How many references count on a number.
-    pub fn refcount(self, lengths: &[u32], counts: &[u16], text: &[u8], number: i32) -> Counted
-        ensures { λ a. ⌜ countedAs a ≡ refcountAnswer self (rooms (now (lengths .entry)) (now (counts .entry)) (now (text .entry))) number ⌝ }
-    {
-        let j = show_refusal(self, lengths, counts, text, StringRef(number));
-        match j {
-            Judged::Refused(why) => Counted::Refused(why),
-            Judged::Sound => Counted::Is(count_at(self.num_strings, counts, StringRef(number))),
-        }
+        Placed::Outside => Showable::Refused(Refusal::ReferenceRange),
+        Placed::At(_) => Showable::Yes,
     }
 }
 
 // The count of r among n entries, 0 past the end.
-fn count_at(n: usize, counts: &[u16], r: StringRef) -> u16
+fn count_sound(n: usize, counts: &[u16], r: StringRef) -> Counted
     requires { ⌜ n ≤ length (now counts) ⌝ }
-    ensures { λ a. ⌜ a ≡ countAt n (now (counts .entry)) (placeOf (r .0)) ⌝ }
+    ensures { λ a. ⌜ countedAs a ≡ onReference (r .0) (λ k. gives (countAt n (now (counts .entry)) k)) ⌝ }
 {
     let Placed::At(place) = r.place() else {
-        return 0;
+        return Counted::Refused(Refusal::ReferenceRange);
     };
     let at = place.0;
     if at >= n {
-        return 0;
+        return Counted::Is(0);
     }
-    counts[at]
+    Counted::Is(counts[at])
 }

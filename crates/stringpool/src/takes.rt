@@ -1,16 +1,13 @@
 // Take: one reference more on a text.
 use crate::choice::Chosen;
-use crate::choice::choose_entry;
 use crate::entry::add_entry;
 use crate::entry::put_entry;
 use crate::judge::Judged;
-use crate::judge::judge;
+use crate::looks::look;
 use crate::pool::StringPool;
 use crate::refs::EntryPlace;
 use crate::refs::StringRef;
-use crate::text::start_of;
 use common::Refusal;
-use common::sizes::MAX_BYTES;
 use common::sizes::MAX_ENTRIES;
 ghost use mathlib.Core.Path.{_≡_};
 ghost use Prim.Native.Nat.{_+_, _-_, _≤_, _<_, _^_};
@@ -18,7 +15,7 @@ ghost use lib.ListN.{length, take, getD};
 ghost use Rattle.common.specs.Lists.{total};
 ghost use Rattle.stringpool.specs.inner.Entries.{Fit, rooms};
 ghost use Rattle.stringpool.specs.Take.{takenAs, takeOutcome, firstFreeOrEqual};
-ghost use Rattle.stringpool.specs.inner.Take.{judgeTake, ChosenIs, chosenOf, shortFull};
+ghost use Rattle.stringpool.specs.inner.Take.{ChosenIs, ChosenTo, chosenOf, shortFull};
 ghost use Rattle.stringpool.specs.declared.choice.Chosen.the-variants.{Free, Equal, Added};
 
 pub enum Taken {
@@ -38,43 +35,46 @@ impl StringPool {
         ensures { λ a. ⌜ (takenAs a, rooms (now (lengths .exit)) (now (counts .exit)) (now (text .exit)))
             ≡ takeOutcome firstFreeOrEqual self (rooms (now (lengths .entry)) (now (counts .entry)) (now (text .entry))) (now (new .entry)) ⌝ }
     {
-        let j = judge_take(self, lengths, counts, text, new);
-        match j {
+        let looked = look(self, lengths, counts, text, new);
+        let judged = looked.judged;
+        let chosen = looked.chosen;
+        match judged {
             Judged::Refused(why) => Taken::Refused(why),
-            Judged::Sound => incref_sound(self, lengths, counts, text, new),
+            Judged::Sound(used) => incref_sound(
+                self,
+                lengths,
+                counts,
+                text,
+                new,
+                chosen,
+                looked.start,
+                used,
+            ),
         }
     }
 }
 
-// The size of the text is judged with that of the text room.
-fn judge_take(p: StringPool, lengths: &[u32], counts: &[u16], text: &[u8], new: &[u8]) -> Judged
-    ensures { λ r. ⌜ r ≡ judgeTake p (rooms (now (lengths .entry)) (now (counts .entry)) (now (text .entry))) (now (new .entry)) ⌝ }
-{
-    if new.len() > MAX_BYTES {
-        return Judged::Refused(Refusal::OverSize);
-    }
-    judge(p, lengths, counts, text)
-}
-
-// The take on a sound pool.
+// The take on a sound pool, at the entry chosen.
 fn incref_sound(
     p: StringPool,
     lengths: &mut [u32],
     counts: &mut [u16],
     text: &mut [u8],
     new: &[u8],
+    chosen: Chosen,
+    start: usize,
+    used: usize,
 ) -> Taken
     requires { ⌜ Fit (p .«num_strings») (rooms (now lengths) (now counts) (now text)) ⌝ }
-    requires { ⌜ (p .«num_strings» ≤ 16777215) × (length (now text) ≤ 268435455) × (length (now new) ≤ 268435455) ⌝ }
+    requires { ⌜ ChosenTo p (rooms (now lengths) (now counts) (now text)) (now new) chosen start used ⌝ }
     ensures { λ a. ⌜ ChosenIs p (now (new .entry)) (chosenOf p (rooms (now (lengths .entry)) (now (counts .entry)) (now (text .entry))) (now (new .entry)))
         (rooms (now (lengths .entry)) (now (counts .entry)) (now (text .entry))) a
         (rooms (now (lengths .exit)) (now (counts .exit)) (now (text .exit))) ⌝ }
 {
-    let chosen = choose_entry(p.num_strings, lengths, counts, text, new);
     match chosen {
-        Chosen::Free(place) => take_free(p, lengths, counts, text, new, place),
+        Chosen::Free(place) => take_free(p, lengths, counts, text, new, place, start, used),
         Chosen::Equal(place) => count_up(p, lengths, counts, text, new, place),
-        Chosen::Added => take_added(p, lengths, counts, text, new),
+        Chosen::Added => take_added(p, lengths, counts, text, new, used),
     }
 }
 
@@ -108,8 +108,11 @@ fn take_free(
     text: &mut [u8],
     new: &[u8],
     place: EntryPlace,
+    start: usize,
+    used: usize,
 ) -> Taken
     requires { ⌜ Fit (p .«num_strings») (rooms (now lengths) (now counts) (now text)) ⌝ }
+    requires { ⌜ (start ≡ total (take (place .0) (now lengths))) × (used ≡ total (take (p .«num_strings») (now lengths))) ⌝ }
     requires { ⌜ (p .«num_strings» ≤ 16777215) × (length (now text) ≤ 268435455) × (length (now new) ≤ 268435455)
         × (place .0 < p .«num_strings») × (getD (now counts) (place .0) 0 ≡ 0) ⌝ }
     ensures { λ a. ⌜ ChosenIs p (now (new .entry)) (Free place)
@@ -118,12 +121,11 @@ fn take_free(
 {
     let n = p.num_strings;
     let at = place.0;
-    let used = start_of(lengths, n);
     let old = lengths[at] as usize;
     if used - old + new.len() > text.len() {
         return Taken::Refused(Refusal::TextRoom);
     }
-    put_entry(n, lengths, counts, text, at, new, 1);
+    put_entry(n, lengths, counts, text, at, start, used, new, 1);
     Taken::Ref(place.reference(), p)
 }
 
@@ -144,8 +146,10 @@ fn take_added(
     counts: &mut [u16],
     text: &mut [u8],
     new: &[u8],
+    used: usize,
 ) -> Taken
     requires { ⌜ Fit (p .«num_strings») (rooms (now lengths) (now counts) (now text)) ⌝ }
+    requires { ⌜ used ≡ total (take (p .«num_strings») (now lengths)) ⌝ }
     requires { ⌜ (p .«num_strings» ≤ 16777215) × (length (now text) ≤ 268435455) × (length (now new) ≤ 268435455) ⌝ }
     ensures { λ a. ⌜ ChosenIs p (now (new .entry)) Added
         (rooms (now (lengths .entry)) (now (counts .entry)) (now (text .entry))) a
@@ -164,7 +168,6 @@ fn take_added(
     if n >= counts.len() {
         return Taken::Refused(Refusal::EntryRoom);
     }
-    let used = start_of(lengths, n);
     if used + new.len() > text.len() {
         return Taken::Refused(Refusal::TextRoom);
     }

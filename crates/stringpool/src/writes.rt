@@ -3,18 +3,17 @@ use crate::judge::Judged;
 use crate::judge::judge;
 use crate::pool::StringPool;
 use crate::text::copy_in;
-use crate::text::start_of;
 use common::Refusal;
 use little_endian::write;
 ghost use mathlib.Core.Path.{_≡_};
 ghost use Prim.Native.Nat.{_+_, _*_, _≤_, _<_};
 ghost use lib.ListN.{length, take};
-ghost use Rattle.common.specs.Lists.{overAt, total};
+ghost use Rattle.common.specs.Lists.{overAt};
 ghost use Rattle.common.specs.Answers.{outcome};
 ghost use Rattle.stringpool.specs.Pool.{rooms};
 ghost use Rattle.stringpool.specs.Write.{shortOf, entryBytes, markOf, poolBytes, dataBytes, writeAnswer, writeOutcome, writtenAs};
 ghost use Rattle.stringpool.specs.Write as written;
-ghost use Rattle.stringpool.specs.inner.Write.{entriesBytes, poolStream, dataStream};
+ghost use Rattle.stringpool.specs.inner.Write.{entriesBytes, poolStream};
 
 pub enum Written {
     Bytes(usize),
@@ -122,13 +121,12 @@ fn write_sound(p: StringPool, lengths: &[u32], counts: &[u16], out: &mut [u8]) -
     Written::Bytes(size)
 }
 
-// Writes the texts of n entries in entry order.
-fn write_texts(n: usize, lengths: &[u32], text: &[u8], out: &mut [u8]) -> Written
-    requires { ⌜ (n ≤ length (now lengths)) × (total (take n (now lengths)) ≤ length (now text)) ⌝ }
+// Writes the used part of the text room: the texts in entry order.
+fn write_texts(text: &[u8], used: usize, out: &mut [u8]) -> Written
+    requires { ⌜ used ≤ length (now text) ⌝ }
     ensures { λ a. ⌜ (writtenAs a, now (out .exit)) ≡ outcome (now (out .entry))
-        (writeAnswer (dataStream n (now (lengths .entry)) (now (text .entry))) (now (out .entry))) ⌝ }
+        (writeAnswer (take used (now (text .entry))) (now (out .entry))) ⌝ }
 {
-    let used = start_of(lengths, n);
     if out.len() < used {
         return Written::Refused(Refusal::OutputRoom);
     }
@@ -145,7 +143,7 @@ impl StringPool {
         let j = judge(self, lengths, counts, text);
         match j {
             Judged::Refused(why) => Written::Refused(why),
-            Judged::Sound => write_sound(self, lengths, counts, out),
+            Judged::Sound(_) => write_sound(self, lengths, counts, out),
         }
     }
 
@@ -157,7 +155,7 @@ impl StringPool {
         let j = judge(self, lengths, counts, text);
         match j {
             Judged::Refused(why) => Written::Refused(why),
-            Judged::Sound => write_texts(self.num_strings, lengths, text, out),
+            Judged::Sound(used) => write_texts(text, used, out),
         }
     }
 }

@@ -1,16 +1,18 @@
 -- Which entry the code chooses, and the judge's answer to a take.
-use Prim.Native.Nat.{ℕ, _+_}
+use Prim.Native.Nat.{ℕ, _+_, _≤_}
 use mathlib.Core.Bool.{Bool, true, false, not, _&&_}
 use mathlib.Core.Path.{_≡_}
 use mathlib.Core.List.{List, [], _∷_}
-use lib.ListN.{length}
+use lib.ListN.{length, take}
 use lib.Dec.{ltb, eqb}
+use Rattle.common.specs.Lists.{total}
+use Rattle.stringpool.specs.declared.refs.EntryPlace.{EntryPlace}
 use Rattle.common.specs.Choice.{_≤?_, if_then_else_}
 use Rattle.common.specs.Answers.{outcome}
 use Rattle.stringpool.specs.Pool.{Entry, Rooms}
 use Rattle.stringpool.specs.Take.{takenAs, takeAt}
 use Rattle.stringpool.specs.inner.Entries.{entriesOf}
-use Rattle.stringpool.specs.inner.Drop.{judgeOf}
+use Rattle.stringpool.specs.inner.Sound.{judgeOf}
 use Rattle.stringpool.specs.declared.pool.StringPool.{StringPool}
 use Rattle.common.specs.declared.refusal.Refusal.the-variants.{OverSize}
 use Rattle.stringpool.specs.declared.judge.Judged.{Judged}
@@ -55,3 +57,12 @@ chosenOf p w t = choose t (entriesOf (p .«num_strings») w)
 -- the take on a pool that was judged sound, at the entry chosen
 pub record ChosenIs (p : StringPool) (t : List ℕ) (x : Chosen) (was : Rooms) (a : Taken) (left : Rooms) : Type 0 where
   pub is : (takenAs a, left) ≡ outcome was (takeAt p was t (placeIn (entriesOf (p .«num_strings») was) x))
+
+-- the entry chosen, where the text of a free one starts and the bytes in use, with the sizes that were judged
+pub record ChosenTo (p : StringPool) (w : Rooms) (t : List ℕ) (x : Chosen) (s u : ℕ) : Type 0 where
+  pub choice : x ≡ chosenOf p w t
+  pub start : (k : EntryPlace) → x ≡ Free k → s ≡ total (take (k .0) (w .lengths))
+  pub used : u ≡ total (take (p .«num_strings») (w .lengths))
+  pub few : p .«num_strings» ≤ 16777215
+  pub room : length (w .text) ≤ 268435455
+  pub new : length t ≤ 268435455

@@ -2,7 +2,6 @@
 use Prim.Native.Nat.{ℕ}
 use mathlib.Core.List.{List, [], _∷_, _++_}
 use lib.ListN.{take}
-use Rattle.common.specs.Lists.{total}
 use Rattle.little_endian.specs.Numbers.{bytesOf}
 use Rattle.stringpool.specs.Write.{entryBytes, markOf}
 use Rattle.stringpool.specs.declared.pool.StringPool.{StringPool}
@@ -14,6 +13,3 @@ entriesBytes (l ∷ ls) (c ∷ cs) = entryBytes l c ++ entriesBytes ls cs
 
 abbrev pub poolStream : StringPool → List ℕ → List ℕ → List ℕ
 poolStream p ls cs = bytesOf 4 (markOf p) ++ entriesBytes (take (p .«num_strings») ls) (take (p .«num_strings») cs)
-
-abbrev pub dataStream : ℕ → List ℕ → List ℕ → List ℕ
-dataStream n ls ts = take (total (take n ls)) ts

@@ -1,5 +1,9 @@
-use mathlib.Core.Path.{_≡_, refl, sym, ap, _∙_}
-use Rattle.stringpool.specs.inner.Entries.{rooms}
+use mathlib.Core.Path.{_≡_, refl, sym, ap, ap₂, _∙_}
+use Prim.Native.Nat.{ℕ, suc, _+_, _-_, _*_, _≤_, _<_}
+use native.Mathlib.Omega.{arith}
+use mathlib.Core.List.{List, [], _++_}
+use lib.ListN.{length, take, drop, getD}
+use Rattle.stringpool.specs.Pool.{rooms}
 use Rattle.stringpool.proofs.Drop.{drop-outside, drop-past, drop-free, drop-done}
 use borrow.Author.Needs.{needs}
 use Rattle.stringpool.proofs.drops.decref_sound.Statement.{statement}
@@ -22,7 +26,7 @@ returns c =
 returns-2 : tie.Need-returns-2
 returns-2 c =
     let s = c .before .before .before .before .before .before .before .before in
-    drop-past (s .args .p) (s .args .r .0) (rooms (s .args .lengths .now) (s .args .counts .now) (s .args .text .now)) (s .pre) _ (sym (c .before .before .before .before .place .ensures) ∙ c .before .before .place2 .given .1) (c .if1 .taken)
+    drop-past (s .args .p) (s .args .r .0) (rooms (s .args .lengths .now) (s .args .counts .now) (s .args .text .now)) (s .pre .0) _ (sym (c .before .before .before .before .place .ensures) ∙ c .before .before .place2 .given .1) (c .if1 .taken)
 
 mul-if2 : tie.Need-mul-if2
 mul-if2 c = search needs
@@ -33,8 +37,7 @@ slice-read-if2 c = search needs
 returns-3 : tie.Need-returns-3
 returns-3 c =
     let s = c .before .before .before .before .before .before .before .before .before .before in
-    let m = c .before .before .before .before in
-    drop-free (s .args .p) (s .args .r .0) (rooms (s .args .lengths .now) (s .args .counts .now) (s .args .text .now)) (s .pre) _ (sym (m .before .before .place .ensures) ∙ m .place2 .given .1) (c .before .before .if1 .left) (c .if2 .taken)
+    drop-free (s .args .p) (s .args .r .0) (rooms (s .args .lengths .now) (s .args .counts .now) (s .args .text .now)) (s .pre .0) _ (sym (c .before .before .before .before .before .before .place .ensures) ∙ c .before .before .before .before .place2 .given .1) (c .before .before .if1 .left) (c .if2 .taken)
 
 count-down-requires : tie.Need-count-down-requires
 count-down-requires c κs = search needs
@@ -51,8 +54,7 @@ same-length-3 c = search needs
 returns-4 : tie.Need-returns-4
 returns-4 c =
     let s = c .before .before .before .before .before .before .before .before .before .before .before .before .before .before .before .before .before .before .before .before in
-    let m = c .before .before .before .before .before .before .before .before .before .before .before .before .before .before in
-    drop-done (s .args .p) (s .args .r .0) (rooms (s .args .lengths .now) (s .args .counts .now) (s .args .text .now)) (s .pre) _ (sym (m .before .before .place .ensures) ∙ m .place2 .given .1) (c .before .before .before .before .before .before .before .before .before .before .before .before .if1 .left) (c .before .before .before .before .before .before .before .before .before .before .if2 .left) _ (c .before .before .before .before .before .before .count-down .ensures)
+    drop-done (s .args .p) (s .args .r .0) (rooms (s .args .lengths .now) (s .args .counts .now) (s .args .text .now)) (s .pre .0) _ (sym (c .before .before .before .before .before .before .before .before .before .before .before .before .before .before .before .before .place .ensures) ∙ c .before .before .before .before .before .before .before .before .before .before .before .before .before .before .place2 .given .1) (c .before .before .before .before .before .before .before .before .before .before .before .before .if1 .left) (c .before .before .before .before .before .before .before .before .before .before .if2 .left) _ (c .before .before .before .before .before .before .count-down .ensures)
 
 pub decref-sound-spec : {M : Type 1} → statement M
 decref-sound-spec =

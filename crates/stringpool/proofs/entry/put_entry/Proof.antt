@@ -1,24 +1,17 @@
 use mathlib.Core.Path.{_≡_, refl, sym, ap, ap₂, _∙_}
-use Prim.Native.Nat.{ℕ, _+_, _-_, _≤_, _<_}
+use Prim.Native.Nat.{ℕ, suc, _+_, _-_, _*_, _≤_, _<_}
 use native.Mathlib.Omega.{arith}
-use mathlib.Core.List.{List}
-use lib.ListN.{length, take, getD}
+use mathlib.Core.List.{List, [], _++_}
+use lib.ListN.{length, take, drop, getD}
+use Rattle.stringpool.specs.Pool.{rooms}
+use lib.ListN.{set}
 use Rattle.common.specs.Lists.{total}
+use Rattle.common.proofs.Sums.{total-in}
 use Rattle.stringpool.specs.inner.Splice.{splice}
-use Rattle.stringpool.specs.inner.Entries.{rooms}
-use Rattle.common.proofs.Sums.{total-le, total-in}
 use Rattle.stringpool.proofs.Entries.{rooms-eq, put-one}
 use borrow.Author.Needs.{needs}
 use Rattle.stringpool.proofs.entry.put_entry.Statement.{statement}
 use Rattle.stringpool.proofs.entry.put_entry.Tie as tie
-
-start-of-requires : tie.Need-start-of-requires
-start-of-requires c κs =
-    let s = c .before .before .before .before .before in
-    omega (arith, s .pre, total-le (s .args .lengths .now) (s .args .at) (s .args .n) (omega arith))
-
-start-of-requires-2 : tie.Need-start-of-requires-2
-start-of-requires-2 c κs = search needs
 
 mul-old : tie.Need-mul-old
 mul-old c = search needs
@@ -27,12 +20,12 @@ slice-read-old : tie.Need-slice-read-old
 slice-read-old c = search needs
 
 cast-old : tie.Need-cast-old
-cast-old c = omega (arith, c .slice-known4 .given (c .before .before .before .before .before .before .before .before .before .args .at))
+cast-old c = omega (arith, c .slice-known4 .given (c .before .before .before .before .before .args .at))
 
 replace-requires : tie.Need-replace-requires
 replace-requires c κs =
-    let s = c .before .before .before .before .before .before .before .before .before .before in
-    omega (arith, s .pre, c .before .before .before .before .start-of .ensures, c .before .before .start-of2 .ensures, total-in (s .args .lengths .now) (s .args .at) (s .args .n) (s .pre .1 .0) (s .pre .0 .lengths))
+    let s = c .before .before .before .before .before .before in
+    omega (arith, s .pre, total-in (s .args .lengths .now) (s .args .at) (s .args .n) (s .pre .1 .0) (s .pre .0 .lengths))
 
 cast-lengths : tie.Need-cast-lengths
 cast-lengths c = search needs
@@ -60,20 +53,18 @@ same-length-3 c = search needs
 
 returns : tie.Need-returns
 returns c =
-    let s = c .before .before .before .before .before .before .before .before .before .before .before .before .before in
+    let s = c .before .before .before .before .before .before .before .before .before in
     let ls = s .args .lengths .now in
     rooms-eq refl refl
     (c .before .before .replace .ensures
-    ∙ ap₂ (λ (i j : ℕ). splice (s .args .text .now) i (getD ls (s .args .at) 0) j (s .args .new .now)) (c .before .before .before .before .before .before .before .start-of .ensures) (c .before .before .before .before .before .start-of2 .ensures))
+    ∙ ap₂ (λ (i j : ℕ). splice (s .args .text .now) i (getD ls (s .args .at) 0) j (s .args .new .now)) (s .pre .1 .2) (s .pre .1 .3))
     ∙ sym (put-one (s .args .n) (rooms ls (s .args .counts .now) (s .args .text .now)) (s .pre .0) (s .args .at) (s .pre .1 .0)
-    (record { text = s .args .new .now; count = s .args .count }) (s .pre .1 .2))
+    (record { text = s .args .new .now; count = s .args .count }) (s .pre .1 .4))
 
 pub put-entry-spec : {M : Type 1} → statement M
 put-entry-spec =
     tie.close
     (tie.spec
-    start-of-requires
-    start-of-requires-2
     mul-old
     slice-read-old
     cast-old

@@ -1,18 +1,15 @@
 use mathlib.Core.Path.{_≡_, refl, sym, ap, ap₂, _∙_}
-use Prim.Native.Nat.{ℕ, _+_, _-_, _≤_, _<_}
+use Prim.Native.Nat.{ℕ, suc, _+_, _-_, _*_, _≤_, _<_}
 use native.Mathlib.Omega.{arith}
-use mathlib.Core.List.{List, []}
+use mathlib.Core.List.{List, [], _++_}
 use lib.ListN.{length, take, drop, getD}
-use Rattle.stringpool.specs.inner.Refs.{placeOf}
+use Rattle.stringpool.specs.Pool.{rooms}
 use Rattle.common.specs.Lists.{total}
-use Rattle.stringpool.specs.inner.Entries.{Entry, rooms, entriesOf}
-use Rattle.stringpool.specs.inner.Drop.{judgeOf}
-use Rattle.stringpool.specs.inner.Show.{entryAt, shownBy, bothJudged, inRange, showRefusal, countedBy, partAt, countAt}
-use Rattle.stringpool.specs.declared.judge.Judged.{Judged}
-use Rattle.stringpool.specs.declared.refs.Placed.{Placed}
-use Rattle.common.proofs.Sums.{total-in, total-le}
-use Rattle.stringpool.proofs.Sound.{sound-fit, judged-sound}
-use Rattle.stringpool.proofs.Show.{entry-part, show-judged, part-outside, part-past, part-in, count-outside, count-past, count-in}
+use Rattle.common.specs.Answers.{gives}
+use Rattle.common.proofs.Sums.{total-le, total-in}
+use Rattle.stringpool.specs.Show.{orEmpty}
+use Rattle.stringpool.specs.inner.Show.{partAt}
+use Rattle.stringpool.proofs.House.{at-outside, at-place, part-past, part-in}
 use borrow.Author.Needs.{needs}
 use Rattle.stringpool.proofs.shows.get_sound.Statement.{statement}
 use Rattle.stringpool.proofs.shows.get_sound.Tie as tie
@@ -32,7 +29,7 @@ slice-aggregate-result c = search needs
 returns : tie.Need-returns
 returns c =
     let s = c .before .before .before .before .before .before in
-    part-outside (s .args .n) (s .args .lengths .now) [] (s .args .text .now) (placeOf (s .args .r .0)) (sym (c .before .before .before .place .ensures) ∙ c .before .enum-told .given .1)
+    ap orEmpty (at-outside (s .args .r .0) (λ k. gives (partAt (s .args .n) (s .args .lengths .now) (s .args .text .now) k)) (sym (c .before .before .before .place .ensures) ∙ c .before .enum-told .given .1))
 
 slice-aggregate-result-2 : tie.Need-slice-aggregate-result-2
 slice-aggregate-result-2 c = search needs
@@ -40,7 +37,8 @@ slice-aggregate-result-2 c = search needs
 returns-2 : tie.Need-returns-2
 returns-2 c =
     let s = c .before .before .before .before .before .before .before .before in
-    part-past (s .args .n) (s .args .lengths .now) [] (s .args .text .now) (placeOf (s .args .r .0)) _ (sym (c .before .before .before .before .before .place .ensures) ∙ c .before .before .before .place2 .given .1) (c .before .if1 .taken)
+    part-past (s .args .n) (s .args .lengths .now) [] (s .args .text .now) _ (c .before .if1 .taken)
+    ∙ ap orEmpty (at-place (s .args .r .0) (λ k. gives (partAt (s .args .n) (s .args .lengths .now) (s .args .text .now) k)) _ (sym (c .before .before .before .before .before .place .ensures) ∙ c .before .before .before .place2 .given .1))
 
 start-of-requires : tie.Need-start-of-requires
 start-of-requires c κs =
@@ -82,7 +80,8 @@ returns-3 c =
     let size : ℕ = getD (s .args .lengths .now) k 0 in
     let e : c .before .before .start-of .result + size - c .before .before .start-of .result ≡ size = omega arith in
     ap₂ (λ (i j : ℕ). take i (drop j (s .args .text .now))) e (c .before .before .start-of .ensures)
-    ∙ part-in (s .args .n) (s .args .lengths .now) [] (s .args .text .now) (placeOf (s .args .r .0)) _ (sym (c .before .before .before .before .before .before .before .place .ensures) ∙ c .before .before .before .before .before .place2 .given .1) (c .before .before .before .if1 .left)
+    ∙ part-in (s .args .n) (s .args .lengths .now) [] (s .args .text .now) k (c .before .before .before .if1 .left)
+    ∙ ap orEmpty (at-place (s .args .r .0) (λ k. gives (partAt (s .args .n) (s .args .lengths .now) (s .args .text .now) k)) _ (sym (c .before .before .before .before .before .before .before .place .ensures) ∙ c .before .before .before .before .before .place2 .given .1))
 
 pub get-sound-spec : {M : Type 1} → statement M
 get-sound-spec =

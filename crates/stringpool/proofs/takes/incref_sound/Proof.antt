@@ -1,46 +1,40 @@
-use mathlib.Core.Path.{_≡_, refl, sym, ap, _∙_}
-use Prim.Native.Nat.{ℕ, _+_, _-_, _≤_, _<_}
+use mathlib.Core.Path.{_≡_, refl, sym, ap, ap₂, _∙_}
+use Prim.Native.Nat.{ℕ, suc, _+_, _-_, _*_, _≤_, _<_}
 use native.Mathlib.Omega.{arith}
-use Rattle.stringpool.specs.inner.Entries.{rooms}
+use mathlib.Core.List.{List, [], _++_}
+use lib.ListN.{length, take, drop, getD}
+use Rattle.stringpool.specs.Pool.{rooms}
 use Rattle.stringpool.proofs.Take.{chosen-to, free-in, equal-in}
 use borrow.Author.Needs.{needs}
 use Rattle.stringpool.proofs.takes.incref_sound.Statement.{statement}
 use Rattle.stringpool.proofs.takes.incref_sound.Tie as tie
-
-choose-entry-requires : tie.Need-choose-entry-requires
-choose-entry-requires c κs = search needs
 
 enum-known-chosen : tie.Need-enum-known-chosen
 enum-known-chosen c = search needs
 
 take-free-requires : tie.Need-take-free-requires
 take-free-requires c κs =
-    let s = c .before .before .before .before .before .before .before .before .before .before .before .before .before .before in
-    let h = free-in (s .args .p) (rooms (s .args .lengths .now) (s .args .counts .now) (s .args .text .now)) (s .pre .0) (s .args .new .now) _ (sym (c .before .before .before .before .chosen .given .1) ∙ c .before .before .before .before .before .before .choose-entry .ensures) in (
-      s .pre .0,
-      (
-        s .pre .1 .0,
-        s .pre .1 .1,
-        s .pre .1 .2,
-        h .0,
-        h .1,
-      ),
-    )
+    let s = c .before .before .before .before .before .before .before .before .before .before in
+    let e = c .before .before .before .before .chosen .given .1 in
+    let h = free-in (s .args .p) (rooms (s .args .lengths .now) (s .args .counts .now) (s .args .text .now)) (s .pre .0) (s .args .new .now) _ (sym e ∙ s .pre .1 .choice) in
+    (s .pre .0, ((s .pre .1 .start _ e, s .pre .1 .used), (s .pre .1 .few, s .pre .1 .room, s .pre .1 .new, h .0, h .1)))
 
 enum-known-chosen-2 : tie.Need-enum-known-chosen-2
 enum-known-chosen-2 c = search needs
 
 count-up-requires : tie.Need-count-up-requires
 count-up-requires c κs =
-    let s = c .before .before .before .before .before .before .before .before .before .before .before .before .before .before in
-    let h = equal-in (s .args .p) (rooms (s .args .lengths .now) (s .args .counts .now) (s .args .text .now)) (s .pre .0) (s .args .new .now) _ (sym (c .before .before .before .before .chosen2 .given .1) ∙ c .before .before .before .before .before .before .choose-entry .ensures) in
-    (s .pre .0, (s .pre .1 .0, h .0, h .1, h .2))
+    let s = c .before .before .before .before .before .before .before .before .before .before in
+    let h = equal-in (s .args .p) (rooms (s .args .lengths .now) (s .args .counts .now) (s .args .text .now)) (s .pre .0) (s .args .new .now) _ (sym (c .before .before .before .before .chosen2 .given .1) ∙ s .pre .1 .choice) in
+    (s .pre .0, (s .pre .1 .few, h .0, h .1, h .2))
 
 enum-told : tie.Need-enum-told
 enum-told c = search needs
 
 take-added-requires : tie.Need-take-added-requires
-take-added-requires c κs = search needs
+take-added-requires c κs =
+    let s = c .before .before .before .before .before .before .before .before .before in
+    (s .pre .0, (s .pre .1 .used, (s .pre .1 .few, s .pre .1 .room, s .pre .1 .new)))
 
 same-length : tie.Need-same-length
 same-length c = search needs
@@ -52,7 +46,9 @@ same-length-3 : tie.Need-same-length-3
 same-length-3 c = search needs
 
 returns : tie.Need-returns
-returns c = chosen-to _ _ (sym (c .before .before .before .before .before .before .before .before .before .before .before .chosen .given .1) ∙ c .before .before .before .before .before .before .before .before .before .before .before .before .before .choose-entry .ensures) (c .before .before .before .before .before .before .take-free .ensures)
+returns c =
+    let s = c .before .before .before .before .before .before .before .before .before .before .before .before .before .before .before .before .before in
+    chosen-to _ _ (sym (c .before .before .before .before .before .before .before .before .before .before .before .chosen .given .1) ∙ s .pre .1 .choice) (c .before .before .before .before .before .before .take-free .ensures)
 
 same-length-4 : tie.Need-same-length-4
 same-length-4 c = search needs
@@ -64,7 +60,9 @@ same-length-6 : tie.Need-same-length-6
 same-length-6 c = search needs
 
 returns-2 : tie.Need-returns-2
-returns-2 c = chosen-to _ _ (sym (c .before .before .before .before .before .before .before .before .before .before .before .chosen2 .given .1) ∙ c .before .before .before .before .before .before .before .before .before .before .before .before .before .choose-entry .ensures) (c .before .before .before .before .before .before .count-up .ensures)
+returns-2 c =
+    let s = c .before .before .before .before .before .before .before .before .before .before .before .before .before .before .before .before .before in
+    chosen-to _ _ (sym (c .before .before .before .before .before .before .before .before .before .before .before .chosen2 .given .1) ∙ s .pre .1 .choice) (c .before .before .before .before .before .before .count-up .ensures)
 
 same-length-7 : tie.Need-same-length-7
 same-length-7 c = search needs
@@ -76,13 +74,14 @@ same-length-9 : tie.Need-same-length-9
 same-length-9 c = search needs
 
 returns-3 : tie.Need-returns-3
-returns-3 c = chosen-to _ _ (sym (c .before .before .before .before .before .before .before .before .before .before .enum-told .given .1) ∙ c .before .before .before .before .before .before .before .before .before .before .before .before .choose-entry .ensures) (c .before .before .before .before .before .before .take-added .ensures)
+returns-3 c =
+    let s = c .before .before .before .before .before .before .before .before .before .before .before .before .before .before .before .before in
+    chosen-to _ _ (sym (c .before .before .before .before .before .before .before .before .before .before .enum-told .given .1) ∙ s .pre .1 .choice) (c .before .before .before .before .before .before .take-added .ensures)
 
 pub incref-sound-spec : {M : Type 1} → statement M
 incref-sound-spec =
     tie.close
     (tie.spec
-    choose-entry-requires
     enum-known-chosen
     take-free-requires
     enum-known-chosen-2

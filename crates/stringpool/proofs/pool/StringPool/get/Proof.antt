@@ -1,12 +1,15 @@
-use mathlib.Core.Path.{_≡_, refl, sym, ap, _∙_}
+use mathlib.Core.Path.{_≡_, refl, sym, ap, ap₂, _∙_}
+use Prim.Native.Nat.{ℕ, suc, _+_, _-_, _*_, _≤_, _<_}
+use native.Mathlib.Omega.{arith}
+use mathlib.Core.List.{List, [], _++_}
+use lib.ListN.{length, take, drop, getD}
+use Rattle.stringpool.specs.Pool.{rooms}
 use lib.IntN.{ℤ}
 use mir.Syntax.{w32}
 use mir.Val.{toZ, ofZ}
 use mir.ValLaws.{toZ-ofZ}
-use Rattle.stringpool.specs.Pool.{rooms}
-use Rattle.stringpool.proofs.Sound.{sound-fit, judged-sound}
-use Rattle.stringpool.proofs.Show.{show-judged}
-use Rattle.stringpool.proofs.House.{get-refused, get-shown, refusal-is, count-refused, count-shown}
+use Rattle.stringpool.proofs.Sound.{judging}
+use Rattle.stringpool.proofs.House.{get-refused, get-shown}
 use borrow.Author.Needs.{needs}
 use Rattle.stringpool.proofs.pool.StringPool.get.Statement.{statement}
 use Rattle.stringpool.proofs.pool.StringPool.get.Tie as tie
@@ -26,20 +29,20 @@ enum-told-2 c = search needs
 get-sound-requires : tie.Need-get-sound-requires
 get-sound-requires c κs =
     let s = c .before .before .before .before .before .before in
-    let f = sound-fit (s .args .self) (rooms (s .args .lengths .now) (s .args .counts .now) (s .args .text .now)) (judged-sound (s .args .self) (rooms (s .args .lengths .now) (s .args .counts .now) (s .args .text .now)) (sym (c .before .before .judge .ensures) ∙ c .enum-told2 .given .1)) in
-    (f .fit .lengths, f .fit .text)
+    let f = judging (s .args .self) (rooms (s .args .lengths .now) (s .args .counts .now) (s .args .text .now)) (sym (c .before .before .judge .ensures) ∙ c .enum-told2 .given .1) .all .fit in
+    (f .lengths, f .text)
 
 returns : tie.Need-returns
 returns c =
     let s = c .before .before .before .before .before .before .before in
-    get-refused (s .args .self) (rooms (s .args .lengths .now) (s .args .counts .now) (s .args .text .now)) _ (s .args .number) refl _ (sym (c .before .before .before .judge .ensures) ∙ c .before .enum-told .given .1)
+    get-refused (s .args .self) (rooms (s .args .lengths .now) (s .args .counts .now) (s .args .text .now)) (s .args .number) (s .args .number) refl _ (sym (c .before .before .before .judge .ensures) ∙ c .before .enum-told .given .1)
 
 returns-2 : tie.Need-returns-2
 returns-2 c =
     let s = c .before .before .before .before .before .before .before in
     let z : ℤ = s .args .number in
     let back : toZ w32 (ofZ w32 z) ≡ z = toZ-ofZ w32 z (search needs) in
-    get-shown (s .args .self) (rooms (s .args .lengths .now) (s .args .counts .now) (s .args .text .now)) _ z back (sym (c .before .before .before .judge .ensures) ∙ c .before .enum-told2 .given .1) _ (c .get-sound .ensures)
+    get-shown (s .args .self) (rooms (s .args .lengths .now) (s .args .counts .now) (s .args .text .now)) z _ back (sym (c .before .before .before .judge .ensures) ∙ c .before .enum-told2 .given .1) _ (c .get-sound .ensures)
 
 pub get-spec : {M : Type 1} → statement M
 get-spec =

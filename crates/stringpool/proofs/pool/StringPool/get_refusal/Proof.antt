@@ -1,25 +1,42 @@
-use mathlib.Core.Path.{_≡_, refl, sym, ap, _∙_}
+use mathlib.Core.Path.{_≡_, refl, sym, ap, ap₂, _∙_}
+use Prim.Native.Nat.{ℕ, suc, _+_, _-_, _*_, _≤_, _<_}
+use native.Mathlib.Omega.{arith}
+use mathlib.Core.List.{List, [], _++_}
+use lib.ListN.{length, take, drop, getD}
+use Rattle.stringpool.specs.Pool.{rooms}
 use lib.IntN.{ℤ}
 use mir.Syntax.{w32}
 use mir.Val.{toZ, ofZ}
 use mir.ValLaws.{toZ-ofZ}
-use Rattle.stringpool.specs.Pool.{rooms}
-use Rattle.stringpool.proofs.Sound.{sound-fit, judged-sound}
-use Rattle.stringpool.proofs.Show.{show-judged}
-use Rattle.stringpool.proofs.House.{get-refused, get-shown, refusal-is, count-refused, count-shown}
+use Rattle.stringpool.proofs.House.{refusal-refused, refusal-passed}
 use borrow.Author.Needs.{needs}
 use Rattle.stringpool.proofs.pool.StringPool.get_refusal.Statement.{statement}
 use Rattle.stringpool.proofs.pool.StringPool.get_refusal.Tie as tie
 
-show-refusal-requires : tie.Need-show-refusal-requires
-show-refusal-requires c κs = search needs
+judge-requires : tie.Need-judge-requires
+judge-requires c κs = search needs
+
+enum-known-j : tie.Need-enum-known-j
+enum-known-j c = search needs
+
+enum-told : tie.Need-enum-told
+enum-told c = search needs
+
+in-range-requires : tie.Need-in-range-requires
+in-range-requires c κs = search needs
 
 returns : tie.Need-returns
 returns c =
-    let s = c .before .before .before .before in
+    let s = c .before .before .before .before .before .before .before in
+    refusal-refused (s .args .self) (rooms (s .args .lengths .now) (s .args .counts .now) (s .args .text .now)) (s .args .number) (s .args .number) refl _ (sym (c .before .before .before .judge .ensures) ∙ c .before .j .given .1)
+
+returns-2 : tie.Need-returns-2
+returns-2 c =
+    let s = c .before .before .before .before .before .before .before in
     let z : ℤ = s .args .number in
     let back : toZ w32 (ofZ w32 z) ≡ z = toZ-ofZ w32 z (search needs) in
-    refusal-is (s .args .self) (rooms (s .args .lengths .now) (s .args .counts .now) (s .args .text .now)) _ z back _ (c .show-refusal .ensures)
+    c .in-range .ensures ∙ refusal-passed (s .args .self) (rooms (s .args .lengths .now) (s .args .counts .now) (s .args .text .now)) z _ back (sym (c .before .before .before .judge .ensures) ∙ c .before .enum-told .given .1)
 
 pub get-refusal-spec : {M : Type 1} → statement M
-get-refusal-spec = tie.close (tie.spec show-refusal-requires returns)
+get-refusal-spec =
+    tie.close (tie.spec judge-requires enum-known-j enum-told in-range-requires returns returns-2)

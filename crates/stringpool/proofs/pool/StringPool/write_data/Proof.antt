@@ -1,12 +1,12 @@
 use mathlib.Core.Path.{_≡_, refl, sym, ap, ap₂, _∙_}
 use Prim.Native.Nat.{ℕ, suc, _+_, _-_, _*_, _≤_, _<_}
 use native.Mathlib.Omega.{arith}
-use mathlib.Core.List.{List, _++_}
-use lib.ListN.{length, take, drop, getD, set, length-drop, length-append}
-use Rattle.common.specs.Answers.{outcome}
+use mathlib.Core.List.{List, [], _++_}
+use lib.ListN.{length, take, drop, getD}
 use Rattle.stringpool.specs.Pool.{rooms}
+use Rattle.common.specs.Answers.{outcome}
 use Rattle.stringpool.specs.Write.{dataBytes, writeAnswer}
-use Rattle.stringpool.proofs.Sound.{sound-fit, judged-sound}
+use Rattle.stringpool.proofs.Sound.{judging}
 use Rattle.stringpool.proofs.House.{judge-refused, judge-passed}
 use Rattle.stringpool.proofs.Streams.{data-same}
 use borrow.Author.Needs.{needs}
@@ -19,14 +19,14 @@ judge-requires c κs = search needs
 enum-known-j : tie.Need-enum-known-j
 enum-known-j c = search needs
 
-enum-told : tie.Need-enum-told
-enum-told c = search needs
+enum-known-j-2 : tie.Need-enum-known-j-2
+enum-known-j-2 c = search needs
 
 write-texts-requires : tie.Need-write-texts-requires
 write-texts-requires c κs =
-    let s = c .before .before .before .before .before .before .before .before in
-    let f = sound-fit (s .args .self) (rooms (s .args .lengths .now) (s .args .counts .now) (s .args .text .now)) (judged-sound (s .args .self) (rooms (s .args .lengths .now) (s .args .counts .now) (s .args .text .now)) (sym (c .before .before .before .judge .ensures) ∙ c .before .enum-told .given .1)) in
-    (f .fit .lengths, f .fit .text)
+    let s = c .before .before .before .before .before .before .before .before .before in
+    let j = judging (s .args .self) (rooms (s .args .lengths .now) (s .args .counts .now) (s .args .text .now)) (sym (c .before .before .before .before .judge .ensures) ∙ c .before .before .j2 .given .1) in
+    omega (arith, j .used, j .all .fit .text)
 
 returns : tie.Need-returns
 returns c =
@@ -38,11 +38,11 @@ same-length c = search needs
 
 returns-2 : tie.Need-returns-2
 returns-2 c =
-    let s = c .before .before .before .before .before .before .before .before .before .before .before in
-    let j = sym (c .before .before .before .before .before .before .judge .ensures) ∙ c .before .before .before .before .enum-told .given .1 in
-    let f = sound-fit (s .args .self) (rooms (s .args .lengths .now) (s .args .counts .now) (s .args .text .now)) (judged-sound (s .args .self) (rooms (s .args .lengths .now) (s .args .counts .now) (s .args .text .now)) j) in
-    c .before .before .write-texts .ensures ∙ ap (λ (x : List ℕ). outcome (s .args .out .now) (writeAnswer x (s .args .out .now))) (data-same (s .args .self) (rooms (s .args .lengths .now) (s .args .counts .now) (s .args .text .now)) (f .fit))
-    ∙ judge-passed (s .args .self) (rooms (s .args .lengths .now) (s .args .counts .now) (s .args .text .now)) (s .args .out .now) (writeAnswer (dataBytes (s .args .self) (rooms (s .args .lengths .now) (s .args .counts .now) (s .args .text .now))) (s .args .out .now)) j
+    let s = c .before .before .before .before .before .before .before .before .before .before .before .before in
+    let e = sym (c .before .before .before .before .before .before .before .judge .ensures) ∙ c .before .before .before .before .before .j2 .given .1 in
+    let j = judging (s .args .self) (rooms (s .args .lengths .now) (s .args .counts .now) (s .args .text .now)) e in
+    c .before .before .write-texts .ensures ∙ ap (λ (x : List ℕ). outcome (s .args .out .now) (writeAnswer x (s .args .out .now))) (data-same (s .args .self) (rooms (s .args .lengths .now) (s .args .counts .now) (s .args .text .now)) (j .all .fit) (j .used))
+    ∙ judge-passed (s .args .self) (rooms (s .args .lengths .now) (s .args .counts .now) (s .args .text .now)) (s .args .out .now) (writeAnswer (dataBytes (s .args .self) (rooms (s .args .lengths .now) (s .args .counts .now) (s .args .text .now))) (s .args .out .now)) e
 
 pub write-data-spec : {M : Type 1} → statement M
 write-data-spec =
@@ -50,7 +50,7 @@ write-data-spec =
     (tie.spec
     judge-requires
     enum-known-j
-    enum-told
+    enum-known-j-2
     write-texts-requires
     returns
     same-length

@@ -1,12 +1,12 @@
 use mathlib.Core.Path.{_≡_, refl, sym, ap, ap₂, _∙_}
 use Prim.Native.Nat.{ℕ, suc, _+_, _-_, _*_, _≤_, _<_}
 use native.Mathlib.Omega.{arith}
-use mathlib.Core.List.{List, _++_}
-use lib.ListN.{length, take, drop, getD, set, length-drop, length-append}
-use Rattle.common.specs.Answers.{outcome}
+use mathlib.Core.List.{List, [], _++_}
+use lib.ListN.{length, take, drop, getD}
 use Rattle.stringpool.specs.Pool.{rooms}
+use Rattle.common.specs.Answers.{outcome}
 use Rattle.stringpool.specs.Write.{poolBytes, writeAnswer}
-use Rattle.stringpool.proofs.Sound.{sound-fit, judged-sound}
+use Rattle.stringpool.proofs.Sound.{judging}
 use Rattle.stringpool.proofs.House.{judge-refused, judge-passed}
 use Rattle.stringpool.proofs.Streams.{pool-same}
 use borrow.Author.Needs.{needs}
@@ -25,7 +25,7 @@ enum-told c = search needs
 write-sound-requires : tie.Need-write-sound-requires
 write-sound-requires c κs =
     let s = c .before .before .before .before .before .before .before .before in
-    let f = sound-fit (s .args .self) (rooms (s .args .lengths .now) (s .args .counts .now) (s .args .text .now)) (judged-sound (s .args .self) (rooms (s .args .lengths .now) (s .args .counts .now) (s .args .text .now)) (sym (c .before .before .before .judge .ensures) ∙ c .before .enum-told .given .1)) in
+    let f = judging (s .args .self) (rooms (s .args .lengths .now) (s .args .counts .now) (s .args .text .now)) (sym (c .before .before .before .judge .ensures) ∙ c .before .enum-told .given .1) .all in
     (f .fit .lengths, f .fit .counts, f .few, f .page)
 
 returns : tie.Need-returns
@@ -39,10 +39,10 @@ same-length c = search needs
 returns-2 : tie.Need-returns-2
 returns-2 c =
     let s = c .before .before .before .before .before .before .before .before .before .before .before in
-    let j = sym (c .before .before .before .before .before .before .judge .ensures) ∙ c .before .before .before .before .enum-told .given .1 in
-    let f = sound-fit (s .args .self) (rooms (s .args .lengths .now) (s .args .counts .now) (s .args .text .now)) (judged-sound (s .args .self) (rooms (s .args .lengths .now) (s .args .counts .now) (s .args .text .now)) j) in
-    c .before .before .write-sound .ensures ∙ ap (λ (x : List ℕ). outcome (s .args .out .now) (writeAnswer x (s .args .out .now))) (pool-same (s .args .self) (rooms (s .args .lengths .now) (s .args .counts .now) (s .args .text .now)) (f .fit))
-    ∙ judge-passed (s .args .self) (rooms (s .args .lengths .now) (s .args .counts .now) (s .args .text .now)) (s .args .out .now) (writeAnswer (poolBytes (s .args .self) (rooms (s .args .lengths .now) (s .args .counts .now) (s .args .text .now))) (s .args .out .now)) j
+    let e = sym (c .before .before .before .before .before .before .judge .ensures) ∙ c .before .before .before .before .enum-told .given .1 in
+    let j = judging (s .args .self) (rooms (s .args .lengths .now) (s .args .counts .now) (s .args .text .now)) e in
+    c .before .before .write-sound .ensures ∙ ap (λ (x : List ℕ). outcome (s .args .out .now) (writeAnswer x (s .args .out .now))) (pool-same (s .args .self) (rooms (s .args .lengths .now) (s .args .counts .now) (s .args .text .now)) (j .all .fit))
+    ∙ judge-passed (s .args .self) (rooms (s .args .lengths .now) (s .args .counts .now) (s .args .text .now)) (s .args .out .now) (writeAnswer (poolBytes (s .args .self) (rooms (s .args .lengths .now) (s .args .counts .now) (s .args .text .now))) (s .args .out .now)) e
 
 pub write-pool-spec : {M : Type 1} → statement M
 write-pool-spec =

@@ -1,0 +1,426 @@
+-- Demand 3: each call's outcome taken apart, its step of the law, and then any list of calls.
+use mathlib.Core.Path.{_≡_, refl, sym, ap, ap₂, subst, _∙_}
+use Prim.Native.Nat.{ℕ, zero, suc, _+_, _-_, _≤_, _<_, min}
+use native.Mathlib.Numerals.{add-one}
+use native.Mathlib.Omega.{arith}
+use mathlib.Core.Bool.{Bool, true, false, not, _&&_, _||_}
+use mathlib.Core.List.{List, [], _∷_, _++_, map}
+use lib.ListN.{length, take, drop, getD, set, length-set}
+use lib.IntN.{ℤ, pos, negsuc}
+use lib.Dec.{leb, ltb, eqb, eqb·suc-suc}
+use borrow.Author.Tests.{leb-true, leb-false, eqb-false, le-leb, ltb-true, ltb-false, le-ltb, lt-ltb, ne-eqb}
+use Rattle.common.specs.Choice.{if_then_else_, _<?_, _≤?_, _=?_}
+use Rattle.common.specs.Answers.{Answer, gives, refused, Place, nowhere, outcome}
+use Rattle.stringpool.specs.Pool.{Entry, entry, Rooms, entriesOf, putBack, texts, entryRoom, sound, onSound}
+use Rattle.stringpool.specs.Refs.{onReference}
+use Rattle.stringpool.specs.Take.{sameBytes, Chooser, takenAt, counting, takeAt, takeAnswer, takeOutcome}
+use Rattle.stringpool.specs.Drop.{lessened, dropAt, dropAnswer, dropOutcome}
+use Rattle.stringpool.specs.Show.{orEmpty, showAnswer, refcountAnswer}
+use Rattle.stringpool_promises.specs.Promises.{State, Call, take-of, drop-of, Legal, AllLegal, left, after, ran, SoundState, entries, shows, countOr0, count, accepted, sameNumber, answers, one, tally, countFor, sumFor, took, gaveUp, tookRef, gaveUpRef, StaysCounted, Demand3, CountsKept, Op, takes, drops, asCall, CallsKept}
+use Rattle.stringpool_promises.proofs.Choosers.{first-free-or-equal}
+use Rattle.stringpool.specs.inner.Drop.{none}
+use Rattle.stringpool.specs.declared.pool.StringPool.{StringPool}
+use Rattle.stringpool.proofs.Entries.{length-entries, length-texts-at, length-at}
+use Rattle.common.proofs.Sums.{total-in}
+use Rattle.stringpool_promises.proofs.Lists.{entries-put}
+use Rattle.stringpool.proofs.Sound.{SoundFit, false-true}
+use Rattle.common.proofs.Outcomes.{Case, no, yes, test, not-true}
+use Rattle.stringpool_promises.proofs.Sounds.{sound-fits}
+use Rattle.stringpool.proofs.House.{put-same}
+use Rattle.stringpool_promises.proofs.Steps.{At, take-sum, take-length, take-count, take-text, drop-sum, drop-count, drop-text, lessened-length}
+use Rattle.stringpool_promises.proofs.Kept.{small-taken, small-dropped, small-entries, put-state}
+use Rattle.stringpool.specs.inner.Entries as inner
+
+-- ---- an answer taken apart
+
+-- both tests of a sound pool
+pub on-sound : {A : Type 0} {x : Answer A} {y : A} {P : Type 0} (p : StringPool) (w : Rooms)
+    → (length (w .text) ≤ 268435455 → sound p w ≡ true → Case x y P) → Case (onSound p w x) y P
+on-sound p w f = test _ 22 nowhere (λ a. test _ 24 nowhere (λ b. f (ltb-false _ _ a) (not-true (sound p w) b)))
+
+-- what is known after an accepted take at the place k
+pub record Took (p : StringPool) (w : Rooms) (t : List ℕ) (k : ℕ) : Type 0 where
+  pub size : length (w .text) ≤ 268435455
+  pub fit : SoundFit p w
+  pub below : k < 16777215
+  pub few : length (takenAt t k (entriesOf p w)) ≤ 16777215
+  pub fits : length (texts (takenAt t k (entriesOf p w))) ≤ length (w .text)
+
+full : (a b : Bool) → (a && b) ≡ false → a ≡ true → b ≡ false
+full true b e f = e
+full false b e f = absurd (false-true f)
+
+pub take-case : (choose : Chooser) (p : StringPool) (w : Rooms) (t : List ℕ) → choose t (entriesOf p w) ≤ length (entriesOf p w)
+    → Case (takeAnswer choose p w t)
+    ((pos (choose t (entriesOf p w) + 1), counting p (length (takenAt t (choose t (entriesOf p w)) (entriesOf p w)))), putBack p w (takenAt t (choose t (entriesOf p w)) (entriesOf p w)))
+    (Took p w t (choose t (entriesOf p w)))
+take-case choose p w t le =
+    let es : List Entry = entriesOf p w in
+    let k : ℕ = choose t es in
+    let es₁ : List Entry = takenAt t k es in
+    let b₁ : Bool = leb (length es) k && not (p .«long_string_refs») && leb 65535 (length es) in
+    let b₂ : Bool = leb (length es) k && leb 16777215 (length es) in
+    let b₃ : Bool = leb (length es) k && leb (entryRoom w) (length es) in
+    let b₄ : Bool = ltb (length (w .text)) (length (texts es₁)) in
+    let x₄ : Answer ((ℤ × StringPool) × Rooms) = gives ((pos (k + 1), counting p (length es₁)), putBack p w es₁) in
+    let x₃ : Answer ((ℤ × StringPool) × Rooms) = if b₄ then refused 6 nowhere else x₄ in
+    let x₂ : Answer ((ℤ × StringPool) × Rooms) = if b₃ then refused 4 nowhere else x₃ in
+    let x₁ : Answer ((ℤ × StringPool) × Rooms) = if b₂ then refused 12 nowhere else x₂ in
+    test {x = onSound p w (takeAt p w t k)} (ltb 268435455 (length t)) 22 nowhere (λ _. on-sound {x = takeAt p w t k} p w (λ size s.
+    test {x = x₁} b₁ 11 nowhere (λ a. test {x = x₂} b₂ 12 nowhere (λ b. test {x = x₃} b₃ 4 nowhere (λ c. test {x = x₄} b₄ 6 nowhere (λ d.
+    let f : SoundFit p w = sound-fits p w s in
+    let n : length es ≡ p .«num_strings» = length-entries (p .«num_strings») w (f .fit) in
+    let new : length es ≤ k → length es < 16777215 = λ h. leb-false 16777215 (length es) (full (leb (length es) k) (leb 16777215 (length es)) b (le-leb (length es) k h)) in
+    yes refl (record {
+      size = size;
+      fit = f;
+      below = below (leb (length es) k) refl new (omega (arith, n, f .few));
+      few = take-length t es k 16777215 (omega (arith, n, f .few)) new;
+      fits = ltb-false _ _ d;
+    })))))))
+  where
+    below : (b : Bool) → leb (length (entriesOf p w)) (choose t (entriesOf p w)) ≡ b
+        → (length (entriesOf p w) ≤ choose t (entriesOf p w) → length (entriesOf p w) < 16777215) → length (entriesOf p w) ≤ 16777215 → choose t (entriesOf p w) < 16777215
+    below true e new m = omega (arith, le, new (leb-true (length (entriesOf p w)) (choose t (entriesOf p w)) e))
+    below false e new m = omega (arith, m, leb-false (length (entriesOf p w)) (choose t (entriesOf p w)) e)
+
+-- the place of a number, and what is known after an accepted drop
+abbrev pub placeOf : ℤ → ℕ
+placeOf (pos n) = n - 1
+placeOf (negsuc n) = 0
+
+pub record DidDrop (p : StringPool) (w : Rooms) (r : ℤ) : Type 0 where
+  pub size : length (w .text) ≤ 268435455
+  pub fit : SoundFit p w
+  pub number : r ≡ pos (placeOf r + 1)
+  pub inside : placeOf r < length (entriesOf p w)
+  pub counted : 0 < getD (entriesOf p w) (placeOf r) none .count
+
+-- either of two tests
+neither : (a b : Bool) → (a || b) ≡ false → (a ≡ false) × (b ≡ false)
+neither true b e = (e, absurd (go e))
+  where
+    go : _≡_ {A = Bool} true false → ⊥
+    go q = let y : _≡_ {A = ℕ} 0 1 = cc in omega arith
+neither false b e = (refl, e)
+
+abbrev lessenedAt : StringPool → Rooms → ℕ → List Entry
+lessenedAt p w k = set (entriesOf p w) k (lessened (getD (entriesOf p w) k none))
+
+pub drop-case : (p : StringPool) (w : Rooms) (r : ℤ) → Case (dropAnswer p w r) (p, putBack p w (lessenedAt p w (placeOf r))) (DidDrop p w r)
+drop-case p w (negsuc n) = on-sound p w (λ size s. no 8 nowhere refl)
+drop-case p w (pos n) =
+    on-sound p w (λ size s. test _ 8 nowhere (λ a. test _ 9 nowhere (λ b. test _ 10 nowhere (λ c.
+    yes refl (record {
+      size = size;
+      fit = sound-fits p w s;
+      number = ap pos (let g : 1 ≤ n = ltb-false n 1 (neither (ltb n 1) (ltb 16777215 n) a .0) in omega arith);
+      inside = leb-false _ _ b;
+      counted = let g : getD (entriesOf p w) (n - 1) none .count ≡ 0 → ⊥ = eqb-false _ 0 c in omega (arith, g);
+    })))))
+
+-- ---- the state after a call
+
+abbrev takenTo : State → Answer ((ℤ × StringPool) × Rooms) → State
+takenTo s x = left (λ (y : ℤ × StringPool). y .1) s (outcome (s .rooms) x)
+
+abbrev droppedTo : State → Answer (StringPool × Rooms) → State
+droppedTo s x = left (λ (y : StringPool). y) s (outcome (s .rooms) x)
+
+entries-is : (p : StringPool) (m : ℕ) (w : Rooms) (es : List Entry) → m ≡ length es → inner.entriesOf m (putBack p w es) ≡ es
+entries-is p m w es e = ap (inner.entriesOf m) (sym (put-same p w es)) ∙ entries-put (p .«num_strings») m w es e
+
+abbrev LegalCall : Call → Type 0
+LegalCall (take-of choose t) = Legal choose
+LegalCall (drop-of r) = Unit {0}
+
+module _ (s : State) (choose : Chooser) (t : List ℕ) where
+  abbrev k : ℕ
+  k = choose t (entries s)
+
+  abbrev es' : List Entry
+  es' = takenAt t k (entries s)
+
+  abbrev TakeCase : Type 0
+  TakeCase = Case (takeAnswer choose (s .pool) (s .rooms) t) ((pos (k + 1), counting (s .pool) (length es')), putBack (s .pool) (s .rooms) es') (Took (s .pool) (s .rooms) t k)
+
+  take-made : takeAnswer choose (s .pool) (s .rooms) t ≡ gives ((pos (k + 1), counting (s .pool) (length es')), putBack (s .pool) (s .rooms) es')
+      → entries (after s (take-of choose t)) ≡ es'
+  take-made e = ap (λ (x : Answer ((ℤ × StringPool) × Rooms)). entries (takenTo s x)) e ∙ entries-is (s .pool) (length es') (s .rooms) es' refl
+
+  take-sound : SoundState s → TakeCase → SoundState (after s (take-of choose t))
+  take-sound h (no n at e) = subst (λ (x : Answer ((ℤ × StringPool) × Rooms)). SoundState (takenTo s x)) (sym e) h
+  take-sound h (yes e d) = subst (λ (x : Answer ((ℤ × StringPool) × Rooms)). SoundState (takenTo s x)) (sym e)
+      (put-state (counting (s .pool) (length es')) (s .pool) (s .rooms) es' refl (d .few) (d .fit .page) (d .fit .fit .text) (d .size) (d .fits)
+      (small-taken t k (entries s) (small-entries (s .pool) (s .rooms) (d .fit))))
+
+module _ (s : State) (r : ℤ) where
+  abbrev es'' : List Entry
+  es'' = lessenedAt (s .pool) (s .rooms) (placeOf r)
+
+  abbrev DropCase : Type 0
+  DropCase = Case (dropAnswer (s .pool) (s .rooms) r) (s .pool, putBack (s .pool) (s .rooms) es'') (DidDrop (s .pool) (s .rooms) r)
+
+  count-kept : DidDrop (s .pool) (s .rooms) r → s .pool .«num_strings» ≡ length es''
+  count-kept d = sym (length-set (entries s) (placeOf r) (lessened (getD (entries s) (placeOf r) none)) ∙ length-entries (s .pool .«num_strings») (s .rooms) (d .fit .fit))
+
+  drop-made : DidDrop (s .pool) (s .rooms) r → dropAnswer (s .pool) (s .rooms) r ≡ gives (s .pool, putBack (s .pool) (s .rooms) es'') → entries (after s (drop-of r)) ≡ es''
+  drop-made d e = ap (λ (x : Answer (StringPool × Rooms)). entries (droppedTo s x)) e ∙ entries-is (s .pool) (s .pool .«num_strings») (s .rooms) es'' (count-kept d)
+
+  drop-sound : SoundState s → DropCase → SoundState (after s (drop-of r))
+  drop-sound h (no n at e) = subst (λ (x : Answer (StringPool × Rooms)). SoundState (droppedTo s x)) (sym e) h
+  drop-sound h (yes e d) =
+      let n : ℕ = s .pool .«num_strings» in
+      let w : Rooms = s .rooms in
+      let x : Entry = getD (entries s) (placeOf r) none in
+      let hk : placeOf r < n = omega (arith, d .inside, length-entries n w (d .fit .fit)) in
+      let room : length (texts es'') ≤ length (w .text) =
+      omega (
+        arith,
+        length-texts-at n w (d .fit .fit) (placeOf r) hk (lessened x),
+        lessened-length x,
+        length-at n w (d .fit .fit) (placeOf r) hk,
+        total-in (w .lengths) (placeOf r) n hk (d .fit .fit .lengths),
+        d .fit .fit .text,
+      ) in
+      subst (λ (y : Answer (StringPool × Rooms)). SoundState (droppedTo s y)) (sym e)
+      (put-state (s .pool) (s .pool) w es'' (count-kept d) (d .fit .few) (d .fit .page) (d .fit .fit .text) (d .size) room
+      (small-dropped (entries s) (placeOf r) (small-entries (s .pool) w (d .fit))))
+
+at-place : (s : State) (choose : Chooser) (t : List ℕ) → Legal choose → At t (entries s) (choose t (entries s))
+at-place s choose t l = record { within = l t (entries s) .0; suits = l t (entries s) .1 }
+
+case-of : (s : State) (choose : Chooser) (t : List ℕ) → Legal choose → TakeCase s choose t
+case-of s choose t l = take-case choose (s .pool) (s .rooms) t (l t (entries s) .0)
+
+-- a sound state stays sound
+sound-step : (s : State) (c : Call) → LegalCall c → SoundState s → SoundState (after s c)
+sound-step s (take-of choose t) l h = take-sound s choose t h (case-of s choose t l)
+sound-step s (drop-of r) l h = drop-sound s r h (drop-case (s .pool) (s .rooms) r)
+
+-- ---- what is shown in a sound state
+
+on-sound-is : {A : Type 0} (s : State) → SoundState s → (a : Answer A) → onSound (s .pool) (s .rooms) a ≡ a
+on-sound-is s h a =
+    ap₂ (λ (x y : Bool). if x then refused 22 nowhere else if not y then refused 24 nowhere else a) (le-ltb 268435455 (length (s .rooms .text)) (h .0)) (h .1)
+
+on-place : {A : Type 0} (k : ℕ) (more : ℕ → Answer A) → k < 16777215 → onReference (pos (k + 1)) more ≡ more k
+on-place k more h =
+    let a : ltb (k + 1) 1 ≡ false = le-ltb (k + 1) 1 (omega arith) in
+    let b : ltb 16777215 (k + 1) ≡ false = le-ltb 16777215 (k + 1) (omega arith) in
+    let i : k + 1 - 1 ≡ k = omega arith in
+    ap₂ (λ (x y : Bool). if x || y then refused 8 nowhere else more (k + 1 - 1)) a b ∙ ap more i
+
+shows-at : (s : State) → SoundState s → (k : ℕ) → k < 16777215 → shows s (pos (k + 1)) ≡ getD (entries s) k none .text
+shows-at s h k b = ap orEmpty (on-sound-is s h (onReference (pos (k + 1)) (λ i. gives (getD (entries s) i none .text))) ∙ on-place k (λ i. gives (getD (entries s) i none .text)) b)
+
+count-at : (s : State) → SoundState s → (k : ℕ) → k < 16777215 → count s (pos (k + 1)) ≡ getD (entries s) k none .count
+count-at s h k b = ap countOr0 (on-sound-is s h (onReference (pos (k + 1)) (λ i. gives (getD (entries s) i none .count))) ∙ on-place k (λ i. gives (getD (entries s) i none .count)) b)
+
+below-end : (s : State) (r : ℤ) → DidDrop (s .pool) (s .rooms) r → placeOf r < 16777215
+below-end s r d = omega (arith, d .inside, d .fit .few, length-entries (s .pool .«num_strings») (s .rooms) (d .fit .fit))
+
+-- ---- a text
+
+text-step : (t : List ℕ) (s : State) (c : Call) → LegalCall c → SoundState s
+    → sumFor t (entries (after s c)) + one (gaveUp t s c) ≡ sumFor t (entries s) + one (took t s c)
+text-step t s (take-of choose u) l h = go (case-of s choose u l)
+  where
+    tallied : Answer ((ℤ × StringPool) × Rooms) → ℕ
+    tallied x = one (accepted (outcome (s .rooms) x .0) && sameBytes u t)
+
+    go : TakeCase s choose u → sumFor t (entries (after s (take-of choose u))) + 0 ≡ sumFor t (entries s) + tallied (takeAnswer choose (s .pool) (s .rooms) u)
+    go (no n at e) = omega (arith, ap (λ (x : Answer ((ℤ × StringPool) × Rooms)). sumFor t (entries (takenTo s x))) e, ap tallied e)
+    go (yes e d) =
+        omega (
+          arith,
+          ap (sumFor t) (take-made s choose u e),
+          take-sum t u (entries s) (choose u (entries s)) (at-place s choose u l),
+          ap tallied e,
+        )
+text-step t s (drop-of r) l h = go (drop-case (s .pool) (s .rooms) r)
+  where
+    tallied : Answer (StringPool × Rooms) → ℕ
+    tallied x = one (accepted (outcome (s .rooms) x .0) && sameBytes (shows s r) t)
+
+    go : DropCase s r → sumFor t (entries (after s (drop-of r))) + tallied (dropAnswer (s .pool) (s .rooms) r) ≡ sumFor t (entries s) + 0
+    go (no n at e) = omega (arith, ap (λ (x : Answer (StringPool × Rooms)). sumFor t (entries (droppedTo s x))) e, ap tallied e)
+    go (yes e d) =
+        let shown : shows s r ≡ getD (entries s) (placeOf r) none .text = ap (shows s) (d .number) ∙ shows-at s h (placeOf r) (below-end s r d) in
+        omega (
+          arith,
+          ap (sumFor t) (drop-made s r d e),
+          drop-sum t (entries s) (placeOf r) (d .inside) (d .counted),
+          ap tallied e,
+          ap (λ (x : List ℕ). one (sameBytes x t)) shown,
+        )
+
+-- ---- a reference
+
+-- a number is that of a place, or of none
+data Numbered (r : ℤ) : Type 0 where
+  place : (k : ℕ) → k < 16777215 → r ≡ pos (k + 1) → Numbered r
+  outside : ((more : ℕ → Answer ℕ) → onReference r more ≡ refused 8 nowhere) → ((m : ℕ) → m < 16777215 → sameNumber (pos (m + 1)) r ≡ false) → Numbered r
+
+numbered : (r : ℤ) → Numbered r
+numbered (negsuc n) = outside (λ more. refl) (λ m h. refl)
+numbered (pos n) = go (ltb n 1) (ltb 16777215 n) refl refl
+  where
+    go : (a b : Bool) → ltb n 1 ≡ a → ltb 16777215 n ≡ b → Numbered (pos n)
+    go true b f g =
+        outside (λ more. ap (λ (x : Bool). if x || ltb 16777215 n then refused 8 nowhere else more (n - 1)) f)
+        (λ m h. ne-eqb (m + 1) n (λ i. omega (arith, ltb-true n 1 f, i)))
+    go false true f g =
+        outside (λ more. ap₂ (λ (x y : Bool). if x || y then refused 8 nowhere else more (n - 1)) f g)
+        (λ m h. ne-eqb (m + 1) n (λ i. omega (arith, ltb-true 16777215 n g, i, h)))
+    go false false f g =
+        let a : 1 ≤ n = ltb-false n 1 f in
+        let b : n ≤ 16777215 = ltb-false 16777215 n g in
+        let e : n ≡ n - 1 + 1 = omega arith in
+        place (n - 1) (omega arith) (ap pos e)
+
+same-next : (a b : ℕ) (r : ℤ) → r ≡ pos (b + 1) → sameNumber (pos (a + 1)) r ≡ eqb a b
+same-next a b r e = ap (sameNumber (pos (a + 1))) e ∙ ap₂ eqb (add-one a) (add-one b) ∙ eqb·suc-suc a b
+
+count-none : (s : State) → SoundState s → (r : ℤ) → ((more : ℕ → Answer ℕ) → onReference r more ≡ refused 8 nowhere) → count s r ≡ 0
+count-none s h r o = ap countOr0 (on-sound-is s h (onReference r (λ i. gives (getD (entries s) i none .count))) ∙ o (λ i. gives (getD (entries s) i none .count)))
+
+ref-step : (r : ℤ) (s : State) (c : Call) → LegalCall c → SoundState s → SoundState (after s c)
+    → count (after s c) r + one (gaveUpRef r s c) ≡ count s r + one (tookRef r s c)
+ref-step r s (take-of choose u) l h h' = go (case-of s choose u l) (numbered r)
+  where
+    tallied : Answer ((ℤ × StringPool) × Rooms) → ℕ
+    tallied x = one (answers (outcome (s .rooms) x .0) r)
+
+    go : TakeCase s choose u → Numbered r → count (after s (take-of choose u)) r + 0 ≡ count s r + tallied (takeAnswer choose (s .pool) (s .rooms) u)
+    go (no n at e) x = omega (arith, ap (λ (y : Answer ((ℤ × StringPool) × Rooms)). count (takenTo s y) r) e, ap tallied e)
+    go (yes e d) (outside o f) =
+        omega (arith, count-none s h r o, count-none (after s (take-of choose u)) h' r o, ap tallied e ∙ ap one (f (choose u (entries s)) (d .below)))
+    go (yes e d) (place j b q) =
+        omega (
+          arith,
+          ap (count (after s (take-of choose u))) q ∙ count-at (after s (take-of choose u)) h' j b,
+          ap (count s) q ∙ count-at s h j b,
+          ap (λ (es : List Entry). getD es j none .count) (take-made s choose u e),
+          take-count u (entries s) (choose u (entries s)) j (l u (entries s) .0),
+          ap tallied e ∙ ap one (same-next (choose u (entries s)) j r q),
+        )
+ref-step r s (drop-of q) l h h' = go (drop-case (s .pool) (s .rooms) q) (numbered r)
+  where
+    tallied : Answer (StringPool × Rooms) → ℕ
+    tallied x = one (accepted (outcome (s .rooms) x .0) && sameNumber q r)
+
+    go : DropCase s q → Numbered r → count (after s (drop-of q)) r + tallied (dropAnswer (s .pool) (s .rooms) q) ≡ count s r + 0
+    go (no n at e) x = omega (arith, ap (λ (y : Answer (StringPool × Rooms)). count (droppedTo s y) r) e, ap tallied e)
+    go (yes e d) (outside o f) =
+        omega (
+          arith,
+          count-none s h r o,
+          count-none (after s (drop-of q)) h' r o,
+          ap tallied e,
+          ap (λ (y : ℤ). one (sameNumber y r)) (d .number) ∙ ap one (f (placeOf q) (below-end s q d)),
+        )
+    go (yes e d) (place j b i) =
+        omega (
+          arith,
+          ap (count (after s (drop-of q))) i ∙ count-at (after s (drop-of q)) h' j b,
+          ap (count s) i ∙ count-at s h j b,
+          ap (λ (es : List Entry). getD es j none .count) (drop-made s q d e),
+          drop-count (entries s) (placeOf q) j (d .inside) (d .counted),
+          ap tallied e,
+          ap (λ (y : ℤ). one (sameNumber y r)) (d .number) ∙ ap one (same-next (placeOf q) j r i),
+        )
+
+-- a reference that stays counted shows the same bytes
+keep-step : (r : ℤ) (s : State) (c : Call) → LegalCall c → SoundState s → SoundState (after s c)
+    → 1 ≤ count s r → 1 ≤ count (after s c) r → shows (after s c) r ≡ shows s r
+keep-step r s (take-of choose u) l h h' a a' = go (case-of s choose u l) (numbered r)
+  where
+    go : TakeCase s choose u → Numbered r → shows (after s (take-of choose u)) r ≡ shows s r
+    go (no n at e) x = ap (λ (y : Answer ((ℤ × StringPool) × Rooms)). shows (takenTo s y) r) e
+    go (yes e d) (outside o f) = absurd (omega (arith, a, count-none s h r o))
+    go (yes e d) (place j b q) =
+        let c : 1 ≤ getD (entries s) j none .count = omega (arith, a, ap (count s) q ∙ count-at s h j b) in
+        ap (shows (after s (take-of choose u))) q ∙ shows-at (after s (take-of choose u)) h' j b
+        ∙ ap (λ (es : List Entry). getD es j none .text) (take-made s choose u e)
+        ∙ take-text u (entries s) (choose u (entries s)) j (l u (entries s) .0) c
+        ∙ sym (ap (shows s) q ∙ shows-at s h j b)
+keep-step r s (drop-of q) l h h' a a' = go (drop-case (s .pool) (s .rooms) q) (numbered r)
+  where
+    go : DropCase s q → Numbered r → shows (after s (drop-of q)) r ≡ shows s r
+    go (no n at e) x = ap (λ (y : Answer (StringPool × Rooms)). shows (droppedTo s y) r) e
+    go (yes e d) (outside o f) = absurd (omega (arith, a, count-none s h r o))
+    go (yes e d) (place j b i) =
+        let made : entries (after s (drop-of q)) ≡ lessenedAt (s .pool) (s .rooms) (placeOf q) = drop-made s q d e in
+        let c : 1 ≤ getD (lessenedAt (s .pool) (s .rooms) (placeOf q)) j none .count =
+        omega (arith, a', ap (count (after s (drop-of q))) i ∙ count-at (after s (drop-of q)) h' j b, ap (λ (es : List Entry). getD es j none .count) made) in
+        ap (shows (after s (drop-of q))) i ∙ shows-at (after s (drop-of q)) h' j b
+        ∙ ap (λ (es : List Entry). getD es j none .text) made
+        ∙ drop-text (entries s) (placeOf q) j (d .inside) c
+        ∙ sym (ap (shows s) i ∙ shows-at s h j b)
+
+-- ---- any list of calls
+
+legal-first : (c : Call) (cs : List Call) → AllLegal (c ∷ cs) → LegalCall c
+legal-first (take-of choose t) cs l = l .0
+legal-first (drop-of r) cs l = tt
+
+legal-rest : (c : Call) (cs : List Call) → AllLegal (c ∷ cs) → AllLegal cs
+legal-rest (take-of choose t) cs l = l .1
+legal-rest (drop-of r) cs l = l
+
+next : (s : State) (c : Call) (cs : List Call) → SoundState s → AllLegal (c ∷ cs) → SoundState (after s c)
+next s c cs h l = sound-step s c (legal-first c cs l) h
+
+pub sound-law : (s : State) (cs : List Call) → SoundState s → AllLegal cs → SoundState (ran s cs)
+sound-law s [] h l = h
+sound-law s (c ∷ cs) h l = sound-law (after s c) cs (next s c cs h l) (legal-rest c cs l)
+
+pub text-law : (t : List ℕ) (s : State) (cs : List Call) → SoundState s → AllLegal cs
+    → sumFor t (entries (ran s cs)) + tally (gaveUp t) s cs ≡ sumFor t (entries s) + tally (took t) s cs
+text-law t s [] h l = refl
+text-law t s (c ∷ cs) h l = omega (arith, text-step t s c (legal-first c cs l) h, text-law t (after s c) cs (next s c cs h l) (legal-rest c cs l))
+
+pub ref-law : (r : ℤ) (s : State) (cs : List Call) → SoundState s → AllLegal cs
+    → count (ran s cs) r + tally (gaveUpRef r) s cs ≡ count s r + tally (tookRef r) s cs
+ref-law r s [] h l = refl
+ref-law r s (c ∷ cs) h l =
+    omega (arith, ref-step r s c (legal-first c cs l) h (next s c cs h l), ref-law r (after s c) cs (next s c cs h l) (legal-rest c cs l))
+
+stays-now : (r : ℤ) (s : State) (cs : List Call) → StaysCounted r s cs → 1 ≤ count s r
+stays-now r s [] k = k
+stays-now r s (c ∷ cs) k = k .0
+
+pub keep-law : (r : ℤ) (s : State) (cs : List Call) → SoundState s → AllLegal cs → StaysCounted r s cs → shows (ran s cs) r ≡ shows s r
+keep-law r s [] h l k = refl
+keep-law r s (c ∷ cs) h l k =
+    keep-law r (after s c) cs (next s c cs h l) (legal-rest c cs l) (k .1)
+    ∙ keep-step r s c (legal-first c cs l) h (next s c cs h l) (k .0) (stays-now r (after s c) cs (k .1))
+
+ran-append : (s : State) (as' bs : List Call) → ran s (as' ++ bs) ≡ ran (ran s as') bs
+ran-append s [] bs = refl
+ran-append s (c ∷ as') bs = ran-append (after s c) as' bs
+
+legal-both : (as' bs : List Call) → AllLegal (as' ++ bs) → AllLegal as' × AllLegal bs
+legal-both [] bs l = (tt, l)
+legal-both (take-of choose t ∷ as') bs l = let q = legal-both as' bs (l .1) in ((l .0, q .0), q .1)
+legal-both (drop-of r ∷ as') bs l = legal-both as' bs l
+
+pub counts-kept : CountsKept
+counts-kept s cs h l = record {
+  text = λ t. text-law t s cs h l;
+  reference = λ r. ref-law r s cs h l;
+  keeps = λ r earlier later e k.
+      let q : AllLegal earlier × AllLegal later = legal-both earlier later (subst AllLegal e l) in
+      ap (λ (x : List Call). shows (ran s x) r) e ∙ ap (λ (x : State). shows x r) (ran-append s earlier later)
+      ∙ keep-law r (ran s earlier) later (sound-law s earlier h (q .0)) (q .1) k;
+  sound = sound-law s cs h l;
+}
+
+all-legal : (ops : List Op) → AllLegal (map asCall ops)
+all-legal [] = tt
+all-legal (takes t ∷ ops) = (first-free-or-equal, all-legal ops)
+all-legal (drops r ∷ ops) = all-legal ops
+
+pub calls-kept : CallsKept
+calls-kept s ops h = counts-kept s (map asCall ops) h (all-legal ops)

@@ -1,0 +1,11 @@
+pub mod Back
+pub mod Cases
+pub mod Choosers
+pub mod Kept
+pub mod Law
+pub mod Lists
+pub mod Loading
+pub mod PageSound
+pub mod Same
+pub mod Sounds
+pub mod Steps

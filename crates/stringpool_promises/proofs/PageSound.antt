@@ -1,0 +1,51 @@
+-- A new pool is sound, and one with another code page.
+use mathlib.Core.Path.{_≡_, refl, sym, ap, ap₂, subst, _∙_}
+use Prim.Native.Nat.{ℕ, _+_, _≤_, _<_}
+use native.Mathlib.Omega.{arith}
+use mathlib.Core.Bool.{Bool, true, false, not}
+use mathlib.Core.List.{List, []}
+use lib.ListN.{length, take}
+use lib.Dec.{ltb, leb}
+use borrow.Author.Tests.{ltb-false, le-ltb, le-leb}
+use Rattle.common.specs.Choice.{if_then_else_}
+use Rattle.common.specs.Answers.{Answer, gives, refused, Place, nowhere}
+use Rattle.stringpool.specs.Pool.{Rooms, sound, onSound}
+use Rattle.common.specs.Lists.{total}
+use Rattle.stringpool.specs.Pages.{pageAnswer, newAnswer, setPageAnswer}
+use Rattle.stringpool_promises.specs.Promises.{State, SoundState, MakesSound, PageSound}
+use Rattle.stringpool.specs.inner.Sound.{allSmall, sumsB, soundB}
+use Rattle.stringpool.specs.declared.pool.StringPool.{StringPool}
+use Rattle.stringpool.proofs.Sound.{SoundFit}
+use Rattle.stringpool_promises.proofs.Sounds.{fit-sound, sound-fits}
+use Rattle.stringpool_promises.proofs.Loading.{refused-gives, given}
+
+abbrev paged : StringPool → ℕ → StringPool
+paged p page = record { «num_strings» = p .«num_strings»; «long_string_refs» = p .«long_string_refs»; codepage = page }
+
+-- another code page of 31 bits keeps what fits
+page-sound : (p : StringPool) (page : ℕ) (w : Rooms) → SoundFit p w → page ≤ 2147483647 → sound (paged p page) w ≡ true
+page-sound p page w f h = fit-sound (paged p page) w (record { fit = f .fit; few = f .few; page = h; small = f .small })
+
+-- an accepted page is that
+page-is : (p : StringPool) (page : ℕ) (q : StringPool) → pageAnswer p page ≡ gives q → (page ≤ 2147483647) × (paged p page ≡ q)
+page-is p page q e = go (ltb 2147483647 page) refl e
+  where
+    go : (b : Bool) → ltb 2147483647 page ≡ b → (if b then refused 21 nowhere else gives (paged p page)) ≡ gives q → (page ≤ 2147483647) × (paged p page ≡ q)
+    go true f i = absurd (refused-gives i)
+    go false f i = (ltb-false 2147483647 page f, ap (given q) i)
+
+page-state : (p : StringPool) (page : ℕ) (q : StringPool) (w : Rooms) → length (w .text) ≤ 268435455 → SoundFit p w → pageAnswer p page ≡ gives q → SoundState (record { pool = q; rooms = w })
+page-state p page q w size f e =
+    let i = page-is p page q e in
+    subst (λ (x : StringPool). SoundState (record { pool = x; rooms = w })) (i .1) (size, page-sound p page w f (i .0))
+
+pub makes-sound : MakesSound
+makes-sound page w p size e =
+    page-state (record { «num_strings» = 0; «long_string_refs» = false; codepage = 0 }) page p w size
+    (record { fit = record { lengths = omega arith; counts = omega arith; text = omega arith }; few = omega arith; page = omega arith; small = refl }) e
+
+pub page-sound-law : PageSound
+page-sound-law page s p h e =
+    let on : onSound (s .pool) (s .rooms) (pageAnswer (s .pool) page) ≡ pageAnswer (s .pool) page =
+    ap₂ (λ (x y : Bool). if x then refused 22 nowhere else if not y then refused 24 nowhere else pageAnswer (s .pool) page) (le-ltb 268435455 (length (s .rooms .text)) (h .0)) (h .1) in
+    page-state (s .pool) page p (s .rooms) (h .0) (sound-fits (s .pool) (s .rooms) (h .1)) (sym on ∙ e)

@@ -1,0 +1,37 @@
+-- A state whose parts fit is sound.
+use mathlib.Core.Path.{_≡_, refl, sym, ap, ap₂, subst, _∙_}
+use Prim.Native.Nat.{ℕ, zero, suc, _+_, _*_, _-_, _%_, _≤_, _<_, min, max, _^_}
+use native.Mathlib.Omega.{arith}
+use mathlib.Core.Bool.{Bool, true, false, not, _&&_, _||_}
+use mathlib.Core.List.{List, [], _∷_, _++_, map}
+use lib.Dec.{ltb, leb, eqb}
+use Rattle.common.specs.Choice.{if_then_else_, _<?_, _≤?_, _=?_}
+use Rattle.common.specs.Lists.{_over_, total, joined}
+use Rattle.common.specs.Answers.{Answer, gives, refused, Place, nowhere, outcome, onGiven}
+use Rattle.stringpool.specs.declared.pool.StringPool.{StringPool}
+use lib.ListN.{length, take}
+use borrow.Author.Tests.{le-ltb, le-leb}
+use Rattle.stringpool.specs.Pool.{Rooms, sound}
+use Rattle.stringpool.specs.inner.Sound.{allSmall, fitsB, soundB}
+use Rattle.stringpool.proofs.Sound.{SoundFit, sound-fit}
+use Rattle.stringpool.proofs.House.{sound-same}
+
+fits-yes : (p : StringPool) (w : Rooms) → SoundFit p w → fitsB p (w .lengths) (w .counts) ≡ true
+unfolding fitsB
+fits-yes p w f =
+    let a : ltb (length (w .lengths)) (p .«num_strings») ≡ false = le-ltb _ _ (f .fit .lengths) in
+    let b : ltb (length (w .counts)) (p .«num_strings») ≡ false = le-ltb _ _ (f .fit .counts) in
+    let c : ltb 16777215 (p .«num_strings») ≡ false = le-ltb _ _ (f .few) in
+    let d : leb (p .codepage) 2147483647 ≡ true = le-leb _ _ (f .page) in
+    simp (a, b, c, d)
+
+pub fit-sound : (p : StringPool) (w : Rooms) → SoundFit p w → sound p w ≡ true
+fit-sound p w f =
+    let n : ℕ = p .«num_strings» in
+    let a : fitsB p (w .lengths) (w .counts) ≡ true = fits-yes p w f in
+    let e : leb (total (take n (w .lengths))) (length (w .text)) ≡ true = le-leb _ _ (f .fit .text) in
+    let g : soundB p w ≡ true = simp (a, f .small, e) in
+    sound-same p w ∙ g
+
+pub sound-fits : (p : StringPool) (w : Rooms) → sound p w ≡ true → SoundFit p w
+sound-fits p w e = sound-fit p w (sym (sound-same p w) ∙ e)

@@ -101,7 +101,7 @@ module _ (ts : List ColumnType) (long : Bool) (rows : ℕ) (cells : Cells) where
   pub table-given : refusalOf (tableBytes ts long rows cells) ≡ gives tt → tableBytes ts long rows cells ≡ gives (plain bytesAt 0 (length ts))
   table-given h = rw (all-given bytesAt (from 0 (length ts)) (sym table-judged ∙ h))
 
-  columns-length : (c n : ℕ) → c + n ≡ length ts → refusalOf (each bytesAt (from c n)) ≡ gives tt → rows * rowSize (take c ts) long + length (plain bytesAt c n) ≡ rows * rowSize ts long
+  pub columns-length : (c n : ℕ) → c + n ≡ length ts → refusalOf (each bytesAt (from c n)) ≡ gives tt → rows * rowSize (take c ts) long + length (plain bytesAt c n) ≡ rows * rowSize ts long
   columns-length c zero e h =
       let all : take c ts ≡ ts = take-all c ts (omega arith) in
       rw all (omega arith)
@@ -124,7 +124,7 @@ column-within ts long rows c h = rw mul-add at (mul-le-mul-left rows (column-in 
 
 -- ---- reading
 
-part-number : (w k : ℕ) (s : List ℕ) (at i : ℕ) → i + w ≤ k → numberIn w (take k (drop at s)) i ≡ numberIn w s (at + i)
+pub part-number : (w k : ℕ) (s : List ℕ) (at i : ℕ) → i + w ≤ k → numberIn w (take k (drop at s)) i ≡ numberIn w s (at + i)
 part-number zero k s at i h = refl
 part-number (suc w) k s at i h =
     let e : at + suc i ≡ suc (at + i) = omega arith in

@@ -159,3 +159,9 @@ pub filled-part : {A : Type 0} (x out last : List A) (k n : ℕ) → last ≡ x 
 filled-part x out last k n e l q h =
     let m : length (take k (drop 0 out)) ≡ k = length-take-le k (drop 0 out) (omega arith) in
     ap (putMid 0 k out) (e ∙ sym (over-all x (take k (drop 0 out)) (omega arith))) ∙ exact-over x out 0 k (omega arith) (omega arith)
+
+-- grids that agree at every place
+pub grid-same : {A : Type 0} (g h : ℕ → ℕ → A) (d : A) (rows columns : ℕ) → ((r c : ℕ) → r < rows → c < columns → g r c ≡ h r c) → rowByRow g rows columns ≡ rowByRow h rows columns
+grid-same g h d rows columns e =
+    filled-done d h rows columns columns (rowByRow g rows columns) (omega arith)
+    (record { sized = length-grid g d columns rows; right = λ r k p q. grid-at g d columns rows r k p q ∙ e r k p q })

@@ -1,0 +1,60 @@
+// The row reader: the lent stream of a table and a place in it, answering one cell after another, row by row.
+use common::Refusal;
+use table::CellRead;
+use table::Counted;
+use table::Table;
+use value::ValueRef;
+ghost use mathlib.Core.Path.{_≡_};
+ghost use Rattle.rows.specs.Next.{stepAs, nextOutcome};
+
+pub enum NextCell {
+    Cell(ValueRef),
+    End,
+    Refused(Refusal),
+}
+
+// What a step answers, and the place after it.
+pub struct Step {
+    pub cell: NextCell,
+    pub at: usize,
+}
+
+// A step from the place `at`: a cell moves it by one, the end and a refusal leave it.
+pub fn next_at(stream: &[u8], at: usize, table: Table) -> Step
+    ensures { λ r. ⌜ stepAs r ≡ nextOutcome table (now (stream .entry)) at ⌝ }
+{
+    let counted = table.num_rows(stream);
+    match counted {
+        Counted::Refused(refusal) => Step {
+            cell: NextCell::Refused(refusal),
+            at,
+        },
+        Counted::Count(rows) => {
+            let count = table.count;
+            if count == 0 {
+                return Step {
+                    cell: NextCell::End,
+                    at,
+                };
+            }
+            let row = at / count;
+            if rows <= row {
+                return Step {
+                    cell: NextCell::End,
+                    at,
+                };
+            }
+            let read = table.read_cell(stream, row, at % count);
+            match read {
+                CellRead::Refused(refusal) => Step {
+                    cell: NextCell::Refused(refusal),
+                    at,
+                },
+                CellRead::Value(value) => Step {
+                    cell: NextCell::Cell(value),
+                    at: at + 1,
+                },
+            }
+        }
+    }
+}

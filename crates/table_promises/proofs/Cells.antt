@@ -1,0 +1,157 @@
+-- A cell written and read, a cell read and written: once over the half of an integer and the width of a reference. Assumes nothing.
+use mathlib.Core.Path.{_≡_, refl, sym, _∙_, ap}
+use mathlib.Core.Bool.{Bool, true, false, not, _&&_, _||_}
+use mathlib.Core.Logic.{⊎-elim}
+use Prim.Native.Nat.{ℕ, zero, suc, _+_, _-_, _<_, _≤_, _^_}
+use native.Mathlib.Omega.{arith}
+use lib.Dec.{eqb, ltb, lit≤, lit<}
+use borrow.Author.Tests.{eq-eqb, ne-eqb, eqb-true, eqb-false, lt-ltb, le-ltb, ltb-true, ltb-false}
+use lib.IntN.{ℤ, pos, negsuc, negℤ, natAbs, _-ℤ_}
+use lib.Signed.{mag, ltZ}
+use Rattle.common.specs.Choice.{if_then_else_}
+use Rattle.common.specs.Answers.{Place, cell, Answer, gives, refused}
+use Rattle.column.specs.declared.column.ColumnType.{ColumnType}
+use Rattle.column.specs.declared.column.ColumnType.the-variants.{Int16, Int32, Str, Binary}
+use Rattle.column.specs.Check.{isBinary}
+use Rattle.column.specs.Cells.{width, integer, stored, unstored, integerCell, referenceCell, referenceNumber}
+use Rattle.column.specs.inner.Signed.{biased, unbiased}
+use Rattle.column.proofs.Halves.{sub-is, mag-unbiased, biased-lt, unbiased-biased, biased-unbiased, biased-zero, integer-given, within-range}
+use Rattle.column.proofs.Numbers.{integer-number, Referred, reference-number}
+use Rattle.column.proofs.Cells.{reference-any, reference-short}
+use Rattle.table_promises.specs.Promises.{same, isSmallest, readsAs, CellReadBack, Int16Kept, FortyThousand}
+
+abbrev nullOr : Bool → ℕ × ℤ → ℕ × ℤ
+nullOr b v = if b then (0, pos 0) else v
+
+-- ---- the smallest integer
+
+smallest-yes : (h : ℕ) → same (negsuc h) (negsuc h) ≡ true
+smallest-yes h = rw (le-ltb h h (omega arith))
+
+smallest-no : (h : ℕ) (z : ℤ) → mag z < suc h → (biased (suc h) z ≡ 0 → ⊥) → same z (negsuc h) ≡ false
+smallest-no h (pos n) m e = refl
+smallest-no h (negsuc n) m e = rw (le-ltb h n (omega arith), lt-ltb n h (let k : n ≡ h → ⊥ = λ q. e (omega arith) in omega (arith, k)))
+
+-- an integer that was stored
+int-back : (h : ℕ) (at : Place) (z : ℤ) (m : ℕ) → integer (suc h) at z ≡ gives m → integerCell (suc h) m ≡ nullOr (same z (negsuc h)) (1, z)
+int-back h at z m e = go (eqb m 0) refl
+  where
+    go : (b : Bool) → eqb m 0 ≡ b → nullOr b (1, pos m -ℤ pos (suc h)) ≡ nullOr (same z (negsuc h)) (1, z)
+    go true q =
+        let f = integer-number (suc h) at z m (omega arith) e in
+        let k : z ≡ negsuc h = biased-zero (suc h) z (f .0) (f .1 ∙ eqb-true m 0 q) ∙ ap negsuc (omega arith) in
+        rw (k, smallest-yes h)
+    go false q =
+        let f = integer-number (suc h) at z m (omega arith) e in
+        let n : biased (suc h) z ≡ 0 → ⊥ = λ p. eqb-false m 0 q (sym (f .1) ∙ p) in
+        let v : pos m -ℤ pos (suc h) ≡ z = sub-is m (suc h) ∙ ap (unbiased (suc h)) (sym (f .1)) ∙ unbiased-biased (suc h) z (f .0) in
+        rw (smallest-no h z (f .0) n, v)
+
+int-lt : (half : ℕ) (at : Place) (z : ℤ) (m : ℕ) → 0 < half → integer half at z ≡ gives m → m < half + half
+int-lt half at z m p e = let f = integer-number half at z m p e in rw (← f .1) (biased-lt half z (f .0))
+
+-- an integer that was read
+int-again : (half : ℕ) (at : Place) (m : ℕ) → m < half + half → integer half at (pos m -ℤ pos half) ≡ gives m
+int-again half at m h = rw (sub-is m half) (integer-given half at (unbiased half m) (mag-unbiased m half h) ∙ ap gives (biased-unbiased half m))
+
+-- ---- the kinds that a column takes
+
+none : {A : Type 0} {n : ℕ} {at : Place} {x : A} {P : Type 0} → refused n at ≡ gives x → P
+none e = absurd (let z : _≡_ {A = ℕ} 0 1 = cc in omega arith)
+
+module _ (h : ℕ) (t : ColumnType) (small : (z : ℤ) → isSmallest t z ≡ same z (negsuc h)) (at : Place) (k : ℕ) (z : ℤ) (m : ℕ) where
+  abbrev IntStored : Bool → Bool → Type 0
+  IntStored a b = (if a then gives 0 else if b then integer (suc h) at z else refused 16 at) ≡ gives m
+
+  int-kinds : (a b : Bool) → eqb k 0 ≡ a → eqb k 1 ≡ b → IntStored a b → integerCell (suc h) m ≡ readsAs t k z
+  int-kinds true b p q e = let i : 0 ≡ m = cc in rw (← i, p)
+  int-kinds false false p q e = none e
+  int-kinds false true p q e =
+      let one : k ≡ 1 = eqb-true k 1 q in
+      rw (one, small z) (int-back h at z m e)
+
+module _ (max : ℕ) (long : Bool) (at : Place) (k : ℕ) (z : ℤ) (m : ℕ) where
+  ref-kinds : (a b : Bool) → eqb k 0 ≡ a → eqb k 2 ≡ b → (if a then gives 0 else if b then referenceNumber long at z else refused 16 at) ≡ gives m → referenceCell m ≡ readsAs (Str max) k z
+  ref-kinds true b p q e = let i : 0 ≡ m = cc in rw (← i, p)
+  ref-kinds false false p q e = none e
+  ref-kinds false true p q e =
+      let two : k ≡ 2 = eqb-true k 2 q in
+      let r = reference-number long at z m e in
+      rw (two, r .is, ne-eqb m 0 (λ i. let l = r .least in omega arith))
+
+binary-kinds : (at : Place) (k : ℕ) (z : ℤ) (m : ℕ) (a : Bool) → eqb k 3 ≡ a → (if a then gives 1 else refused 16 at) ≡ gives m → (3, pos 0) ≡ readsAs Binary k z
+binary-kinds at k z m true p e = rw (eqb-true k 3 p)
+binary-kinds at k z m false p e = none e
+
+pub cell-read-back : CellReadBack
+cell-read-back Int16 long at k z m e = int-kinds 32767 Int16 (λ y. refl) at k z m (eqb k 0) (eqb k 1) refl refl e
+cell-read-back Int32 long at k z m e = int-kinds 2147483647 Int32 (λ y. refl) at k z m (eqb k 0) (eqb k 1) refl refl e
+cell-read-back (Str max) long at k z m e = ref-kinds max long at k z m (eqb k 0) (eqb k 2) refl refl e
+cell-read-back Binary long at k z m e = binary-kinds at k z m (eqb k 3) refl e
+
+-- ---- a stored number fits its width
+
+int-fits : (half : ℕ) (at : Place) (z : ℤ) (m : ℕ) (a b : Bool) → 0 < half → (if a then gives 0 else if b then integer half at z else refused 16 at) ≡ gives m → m < half + half
+int-fits half at z m true b p e = let i : 0 ≡ m = cc in omega arith
+int-fits half at z m false true p e = int-lt half at z m p e
+int-fits half at z m false false p e = none e
+
+ref-fits : (long : Bool) (at : Place) (z : ℤ) (m : ℕ) (a b : Bool) → (if a then gives 0 else if b then referenceNumber long at z else refused 16 at) ≡ gives m → m < 256 ^ (if long then 3 else 2)
+ref-fits true at z m true b e = let i : 0 ≡ m = cc in omega arith
+ref-fits false at z m true b e = let i : 0 ≡ m = cc in omega arith
+ref-fits true at z m false true e = let r = reference-number true at z m e .most in omega arith
+ref-fits false at z m false true e = let r = reference-number false at z m e .short refl in omega arith
+ref-fits long at z m false false e = none e
+
+pub stored-fits : (t : ColumnType) (long : Bool) (at : Place) (k : ℕ) (z : ℤ) (m : ℕ) → stored t long at k z ≡ gives m → m < 256 ^ width t long
+stored-fits Int16 long at k z m e = int-fits 32768 at z m (eqb k 0) (eqb k 1) (lit< tt) e
+stored-fits Int32 long at k z m e = int-fits 2147483648 at z m (eqb k 0) (eqb k 1) (lit< tt) e
+stored-fits (Str max) long at k z m e = ref-fits long at z m (eqb k 0) (eqb k 2) e
+stored-fits Binary long at k z m e = go (eqb k 3) e
+  where
+    go : (a : Bool) → (if a then gives 1 else refused 16 at) ≡ gives m → m < 65536
+    go true f = let i : 1 ≡ m = cc in omega arith
+    go false f = none f
+
+-- ---- what was read is stored as it was
+
+int-stored : (half : ℕ) (at : Place) (m : ℕ) (b : Bool) → eqb m 0 ≡ b → m < half + half
+    → (if eqb (nullOr b (1, pos m -ℤ pos half) .0) 0 then gives 0 else if eqb (nullOr b (1, pos m -ℤ pos half) .0) 1 then integer half at (nullOr b (1, pos m -ℤ pos half) .1) else refused 16 at) ≡ gives m
+int-stored half at m true q h = ap gives (sym (eqb-true m 0 q))
+int-stored half at m false q h = int-again half at m h
+
+one : (k : ℕ) → (k ≡ 0 → ⊥) → 1 ≤ k
+one zero z = absurd (z refl)
+one (suc k) z = omega arith
+
+ref-stored : (long : Bool) (at : Place) (m : ℕ) (b : Bool) → eqb m 0 ≡ b → m < 256 ^ (if long then 3 else 2)
+    → (if eqb (nullOr b (2, pos m) .0) 0 then gives 0 else if eqb (nullOr b (2, pos m) .0) 2 then referenceNumber long at (nullOr b (2, pos m) .1) else refused 16 at) ≡ gives m
+ref-stored long at m true q h = ap gives (sym (eqb-true m 0 q))
+ref-stored true at m false q h =
+    let n = eqb-false m 0 q in
+    sym (reference-any true at (pos m) (le-ltb m 1 (one m n)) (le-ltb 16777215 m (omega arith)) refl)
+ref-stored false at m false q h =
+    let n = eqb-false m 0 q in
+    sym (reference-short false at (pos m) (le-ltb m 1 (one m n)) (le-ltb 16777215 m (omega arith)) (omega arith))
+
+pub stored-again : (t : ColumnType) (long : Bool) (at : Place) (m : ℕ) → isBinary t ≡ false → m < 256 ^ width t long → stored t long at (unstored t m .0) (unstored t m .1) ≡ gives m
+stored-again Int16 long at m n h = int-stored 32768 at m (eqb m 0) refl h
+stored-again Int32 long at m n h = int-stored 2147483648 at m (eqb m 0) refl h
+stored-again (Str max) long at m n h = ref-stored long at m (eqb m 0) refl h
+stored-again Binary long at m n h = absurd (let z : _≡_ {A = ℕ} 0 1 = cc in omega arith)
+
+-- ---- Int16
+
+or-parts : (a b : Bool) → (a || b) ≡ false → (a ≡ false) × (b ≡ false)
+or-parts false false e = (refl, refl)
+or-parts false true e = absurd (let z : _≡_ {A = ℕ} 0 1 = cc in omega arith)
+or-parts true b e = absurd (let z : _≡_ {A = ℕ} 0 1 = cc in omega arith)
+
+pub int16-kept : Int16Kept
+int16-kept long at n m e =
+    let f = integer-number 32768 at n m (lit< tt) e in
+    let r = or-parts _ _ (within-range 32768 n (f .0)) in
+    (r .0, r .1, int-back 32767 at n m e)
+
+pub forty-thousand : FortyThousand
+forty-thousand long r c = refl

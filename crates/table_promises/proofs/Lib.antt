@@ -1,0 +1,6 @@
+pub mod Bits
+pub mod Cells
+pub mod Agree
+pub mod Pieces
+pub mod Rewritten
+pub mod Back

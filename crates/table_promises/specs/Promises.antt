@@ -1,0 +1,94 @@
+-- What is promised of columns and tables: what was written reads back, and what was read writes back.
+use Prim.Native.Nat.{ℕ, _+_, _*_, _≤_, _<_}
+use mathlib.Core.Path.{_≡_}
+use mathlib.Core.Bool.{Bool, false, not, _&&_, _||_}
+use mathlib.Core.List.{List}
+use lib.IntN.{ℤ, pos, negsuc}
+use lib.ListN.{length, take, getD}
+use Rattle.common.specs.Choice.{if_then_else_, _=?_, _<ℤ?_}
+use Rattle.common.specs.Lists.{_over_}
+use Rattle.common.specs.Answers.{Place, gives, refused, cell}
+use Rattle.little_endian.specs.Promises.{AreBytes}
+use Rattle.column.specs.declared.column.ColumnType.{ColumnType}
+use Rattle.column.specs.declared.column.ColumnType.the-variants.{Int16, Int32, Str, Binary}
+use Rattle.column.specs.declared.column.Column.{Column}
+use Rattle.column.specs.declared.column.ColumnBuilder.{ColumnBuilder}
+use Rattle.column.specs.Columns.{bitsColumn, bitfieldAnswer}
+use Rattle.column.specs.Check.{isBinary}
+use Rattle.column.specs.Cells.{stored, unstored}
+use Rattle.table.specs.declared.layout.Table.{Table}
+use Rattle.table.specs.Layout.{typesOf}
+use Rattle.table.specs.Rows.{rowSize, typeAt, rowByRow}
+use Rattle.table.specs.Reading.{numRowsAnswer, readCellAnswer, readRowsOutcome}
+use Rattle.table.specs.Writing.{Cells, writeRowsOutcome}
+
+-- ---- bits
+
+-- "They read back as the same type and marks, except that a Binary column with 0x200 or 0x2000 reads as Str 0";
+-- "a nullable mark made earlier survives reading bits"
+abbrev pub typeBack : Column → ColumnType
+typeBack x = if isBinary (x .coltype) && (x .«is_localizable» || x .«is_primary_key») then Str 0 else x .coltype
+
+abbrev pub BitsReadBack : Type 0
+BitsReadBack = (x : Column) (b : ColumnBuilder) (c : ℕ) (n : ℤ) → bitfieldAnswer x ≡ gives n
+    → bitsColumn b c n ≡ gives (record { coltype = typeBack x; «is_localizable» = x .«is_localizable»; «is_nullable» = b .«is_nullable» || x .«is_nullable»; «is_primary_key» = x .«is_primary_key»; «value_range» = b .«value_range» })
+
+-- ---- cells
+
+abbrev pub same : ℤ → ℤ → Bool
+same m n = not (m <ℤ? n || n <ℤ? m)
+
+-- "The smallest integer writes 0 and so reads Null"
+abbrev pub isSmallest : ColumnType → ℤ → Bool
+isSmallest Int16 n = same n (negsuc 32767)
+isSmallest Int32 n = same n (negsuc 2147483647)
+isSmallest (Str max) n = false
+isSmallest Binary n = false
+
+-- what a cell reads as that was written: itself, "but for the smallest integers, which read as Null, and Null and Binary numbers, which read as 0"
+abbrev pub readsAs : ColumnType → ℕ → ℤ → ℕ × ℤ
+readsAs t kind n =
+    if kind =? 0 || (kind =? 1 && isSmallest t n) then (0, pos 0)
+    else if kind =? 3 then (3, pos 0)
+    else (kind, n)
+
+abbrev pub CellReadBack : Type 0
+CellReadBack = (t : ColumnType) (long : Bool) (at : Place) (kind : ℕ) (n : ℤ) (m : ℕ) → stored t long at kind n ≡ gives m → unstored t m ≡ readsAs t kind n
+
+-- no accepted Int16 cell changes its number on the way through a table, but for the smallest, which is Null there
+abbrev pub Int16Kept : Type 0
+Int16Kept = (long : Bool) (at : Place) (n : ℤ) (m : ℕ) → stored Int16 long at 1 n ≡ gives m
+    → ((n <ℤ? negsuc 32767) ≡ false) × ((pos 32767 <ℤ? n) ≡ false) × (unstored Int16 m ≡ (if same n (negsuc 32767) then (0, pos 0) else (1, n)))
+
+abbrev pub FortyThousand : Type 0
+FortyThousand = (long : Bool) (r c : ℕ) → stored Int16 long (cell r c) 1 (pos 40000) ≡ refused 17 (cell r c)
+
+-- ---- tables; a layout has 64 places
+
+-- "write_rows of what read_rows answered, at equal reference width, gives back exactly the bytes of the complete rows", without Binary columns
+abbrev pub ReadThenWrite : Type 0
+ReadThenWrite = (t : Table) (s : List ℕ) (rows : ℕ) (kinds : List ℕ) (numbers : List ℤ) (out : List ℕ) → length (t .columns) ≡ 64 → AreBytes s
+    → ((c : ℕ) → isBinary (typeAt (typesOf t) c) ≡ false)
+    → numRowsAnswer t s ≡ gives rows → length kinds ≡ rows * t .count → length numbers ≡ rows * t .count
+    → rows * rowSize (typesOf t) (t .«long_string_refs») ≤ length out
+    → let read = readRowsOutcome t s kinds numbers in
+    let bytes = rows * rowSize (typesOf t) (t .«long_string_refs») in
+    (read .0 ≡ gives (rows * t .count)) × (writeRowsOutcome t rows (record { kinds = read .1 .0; numbers = read .1 .1 }) out ≡ (gives bytes, take bytes s over out))
+
+-- the cell at row r, column c of those handed in, as it reads
+abbrev pub handedBack : Table → Cells → ℕ → ℕ → ℕ × ℤ
+handedBack t cells r c = readsAs (typeAt (typesOf t) c) (getD (cells .kinds) (r * t .count + c) 0) (getD (cells .numbers) (r * t .count + c) (pos 0))
+
+-- "read_rows of what write_rows wrote gives back the cells handed in", as cells read
+abbrev pub WriteThenRead : Type 0
+WriteThenRead = (t : Table) (rows : ℕ) (cells : Cells) (out : List ℕ) (n : ℕ) (left : List ℕ) (kinds : List ℕ) (numbers : List ℤ) → length (t .columns) ≡ 64
+    → writeRowsOutcome t rows cells out ≡ (gives n, left) → length kinds ≡ rows * t .count → length numbers ≡ rows * t .count
+    → readRowsOutcome t (take n left) kinds numbers
+    ≡ (gives (rows * t .count), (rowByRow (λ (r c : ℕ). handedBack t cells r c .0) rows (t .count), rowByRow (λ (r c : ℕ). handedBack t cells r c .1) rows (t .count)))
+
+-- "read_rows agrees with read_cell at every place"
+abbrev pub ReadsAgree : Type 0
+ReadsAgree = (t : Table) (s : List ℕ) (rows : ℕ) (kinds : List ℕ) (numbers : List ℤ) (r c : ℕ) → numRowsAnswer t s ≡ gives rows
+    → rows * t .count ≤ length kinds → rows * t .count ≤ length numbers → r < rows → c < t .count
+    → let read = readRowsOutcome t s kinds numbers .1 in
+    readCellAnswer t s r c ≡ gives (getD (read .0) (r * t .count + c) 0, getD (read .1) (r * t .count + c) (pos 0))

@@ -245,12 +245,15 @@ impl CrateSide {
         if !self.raw && (pool.len() > MAX_BYTES || data.len() > MAX_BYTES) {
             return Err(Stop::Outside);
         }
-        if let Some(head) = pool.first_chunk::<4>() {
-            self.page(u32::from_le_bytes(*head) & 0x7fff_ffff)?;
+        match pool.first_chunk::<4>() {
+            Some(head) if !self.raw => drop(self.page(u32::from_le_bytes(*head) & 0x7fff_ffff)?),
+            _ => {}
         }
         let mut source = Counted { rest: pool, filled: 0 };
         let builder = match StringPoolBuilder::read_from_pool(&mut source) {
             Ok(builder) => builder,
+            // A code page that it does not know, outside the domain.
+            Err(error) if error.kind() == io::ErrorKind::InvalidData => return refused(0),
             Err(_) if source.filled == 0 => return refused(1),
             Err(_) => return refused(2),
         };

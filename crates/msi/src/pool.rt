@@ -10,7 +10,7 @@ use crate::answers::told;
 use common::Refusal;
 use stringpool::Counted;
 use stringpool::Dropped;
-use stringpool::Judged;
+use stringpool::Showable;
 use stringpool::Loaded;
 use stringpool::Made;
 use stringpool::Pooled;
@@ -252,8 +252,8 @@ pub extern "C" fn strandroost_get(
     let was = state(pool);
     let shown = was.get_refusal(lengths, counts, text, number);
     match shown {
-        Judged::Refused(why) => refused_count(why),
-        Judged::Sound => copied(was.get(lengths, counts, text, number), out),
+        Showable::Refused(why) => refused_count(why),
+        Showable::Yes => copied(was.get(lengths, counts, text, number), out),
     }
 }
 

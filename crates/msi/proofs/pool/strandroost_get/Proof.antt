@@ -1,7 +1,7 @@
 use Rattle.msi.proofs.Gets.{got-refused, got-given}
 use Rattle.msi.specs.Pools.{stateIn}
 use Rattle.stringpool.specs.declared.pool.StringPool.{StringPool}
-use Rattle.stringpool.specs.Show.{showAnswer, orEmpty, judgedAs}
+use Rattle.stringpool.specs.Show.{showAnswer, orEmpty, showableAs}
 use Rattle.stringpool.specs.Pool.{rooms}
 use Rattle.common.specs.Answers.{refusalOf}
 use denote.Ref.{now}
@@ -44,7 +44,7 @@ returns c =
     let back : toZ w32 (ofZ w32 z) ≡ z = toZ-ofZ w32 z fits in
     let was : c .before .before .before .before .before .state .result ≡ stateIn (s .pool) = c .before .before .before .before .before .state .ensures in
     let shown = showAnswer (stateIn (s .pool)) w z in
-    got-refused shown (c .before .before .shown .given .0 .0) (now (s .out)) (ap judgedAs (sym (c .before .before .shown .given .1)) ∙ c .before .before .before .before .get-refusal .ensures ∙ ap₂ (λ (p : StringPool) (k : ℤ). refusalOf (showAnswer p w k)) was back) (c .refused-count .ensures)
+    got-refused shown (c .before .before .shown .given .0 .0) (now (s .out)) (ap showableAs (sym (c .before .before .shown .given .1)) ∙ c .before .before .before .before .get-refusal .ensures ∙ ap₂ (λ (p : StringPool) (k : ℤ). refusalOf (showAnswer p w k)) was back) (c .refused-count .ensures)
 
 same-length : tie.Need-same-length
 same-length c = search needs
@@ -58,7 +58,7 @@ returns-2 c =
     let back : toZ w32 (ofZ w32 z) ≡ z = toZ-ofZ w32 z fits in
     let was : c .before .before .before .before .before .before .before .before .state .result ≡ stateIn (s .pool) = c .before .before .before .before .before .before .before .before .state .ensures in
     let shown = showAnswer (stateIn (s .pool)) w z in
-    got-given shown (now (s .out)) (ap judgedAs (sym (c .before .before .before .before .before .enum-told .given .1)) ∙ c .before .before .before .before .before .before .before .get-refusal .ensures ∙ ap₂ (λ (p : StringPool) (k : ℤ). refusalOf (showAnswer p w k)) was back)
+    got-given shown (now (s .out)) (ap showableAs (sym (c .before .before .before .before .before .enum-told .given .1)) ∙ c .before .before .before .before .before .before .before .get-refusal .ensures ∙ ap₂ (λ (p : StringPool) (k : ℤ). refusalOf (showAnswer p w k)) was back)
     (c .before .before .before .before .get .ensures ∙ ap₂ (λ (p : StringPool) (k : ℤ). orEmpty (showAnswer p w k)) was back) (c .before .before .copied .ensures)
 
 pub strandroost-get-spec : {M : Type 1} → statement M

@@ -92,6 +92,21 @@ impl Cases {
         self.long_tables(emit);
     }
 
+    /// A short list for crates/replay, which a person can read: names and pools, in commands of at most 100 characters.
+    pub fn short_list(&mut self, emit: &mut dyn FnMut(String)) {
+        const TAKEN: [&str; 9] = ["enc", "dec", "valid", "load", "take", "drop", "show", "count", "w"];
+        let mut short = |case: Case| {
+            for line in case.into_iter().filter(|line| line.len() <= 100 && TAKEN.iter().any(|word| line.starts_with(word))) {
+                emit(line);
+            }
+        };
+        self.short_names(&mut short);
+        self.names(&mut short);
+        self.short_pools(&mut short);
+        self.pools(&mut short);
+        self.three_texts(&mut short);
+    }
+
     // ------------------------------------------------------------ names
 
     fn short_names(&mut self, emit: &mut dyn FnMut(Case)) {
@@ -276,7 +291,11 @@ impl Cases {
             case.push("wdata".into());
             emit(case);
         }
-        // Three texts alone: counts go up and down, and places are given up and taken again.
+        self.three_texts(emit);
+    }
+
+    /// Three texts alone: counts go up and down, and places are given up and taken again.
+    fn three_texts(&mut self, emit: &mut dyn FnMut(Case)) {
         for _ in 0..self.times(20) {
             let mut case = vec!["new 1252".to_string()];
             for _ in 0..2_000 {

@@ -209,6 +209,10 @@ fn shorter_words(word: &str) -> Vec<String> {
 
 fn main() -> std::io::Result<()> {
     let words: Vec<String> = std::env::args().skip(1).collect();
+    if words == ["--short-list"] {
+        Cases { random: random::Random::new(1), scale: 1 }.short_list(&mut |line| println!("{line}"));
+        return Ok(());
+    }
     let number = |at: usize| words.get(at).and_then(|word| word.parse::<u64>().ok());
     let (Some(seed), Some(scale)) = (number(0), number(1)) else {
         eprintln!("usage: desk/compare [SEED [SCALE]], both numbers; SCALE 100 is the default");

@@ -1,0 +1,51 @@
+-- Showing a reference, and then writing what it shows.
+use mathlib.Core.Path.{_≡_, refl, sym, ap, _∙_}
+use Prim.Native.Nat.{ℕ, _<_, _≤_}
+use mathlib.Core.List.{List, _++_}
+use lib.ListN.{length, take, drop}
+use lib.Seq.{take-length}
+use borrow.Author.Tests.{lt-ltb, le-ltb}
+use Rattle.common.specs.Lists.{_over_}
+use Rattle.common.specs.Answers.{Answer, gives, refused, nowhere, onGiven, outcome, refusalOf}
+use Rattle.common.specs.Refusals.{refusedBy}
+use Rattle.common.specs.declared.refusal.Refusal.{Refusal}
+use Rattle.common.proofs.Outcomes.{refused-gives}
+use Rattle.stringpool.specs.Show.{orEmpty}
+use Rattle.stringpool.specs.Write.{writeAnswer}
+use Rattle.msi.specs.Answers.{countIn, handed}
+use Rattle.msi.specs.declared.answers.Count.{Count}
+
+-- a refusal, whatever was to be given
+refusalAs : {A B : Type 0} → Answer A → Answer B
+refusalAs (gives a) = refused 0 nowhere
+refusalAs (refused n at) = refused n at
+
+shown-refused : {B : Type 0} (shown : Answer (List ℕ)) (why : Refusal) (more : List ℕ → Answer B) → refusedBy why ≡ refusalOf shown → refusedBy why ≡ onGiven shown more
+unfolding refusalAs
+shown-refused (gives t) why more e = absurd (refused-gives e)
+shown-refused {B} (refused n at) why more e = ap (refusalAs {B = B}) e
+
+shown-given : {B : Type 0} (shown : Answer (List ℕ)) (more : List ℕ → Answer B) → gives tt ≡ refusalOf shown → more (orEmpty shown) ≡ onGiven shown more
+shown-given (gives t) more e = refl
+shown-given (refused n at) more e = absurd (refused-gives (sym e))
+
+-- what writing a text to an output hands out
+abbrev pub written : List ℕ → Answer (ℕ × List ℕ) → Count × List ℕ
+written out a = handed countIn (outcome out a)
+
+pub copied-short : (t out : List ℕ) {r : Count} → length out < length t → r ≡ countIn (refused 7 nowhere) → (r, out) ≡ written out (writeAnswer t out)
+copied-short t out short made = simp (lt-ltb _ _ short, made)
+
+pub copied-whole : (t out : List ℕ) {r : Count} {new : List ℕ} → length t ≤ length out → r ≡ countIn (gives (length t))
+    → new ≡ take (length t) t ++ drop (length t) out → (r, new) ≡ written out (writeAnswer t out)
+copied-whole t out fits made left = simp (le-ltb _ _ fits, made, left, take-length t)
+
+pub got-refused : (shown : Answer (List ℕ)) (why : Refusal) (out : List ℕ) {r : Count} → refusedBy why ≡ refusalOf shown → r ≡ countIn (refusedBy why)
+    → (r, out) ≡ written out (onGiven shown (λ t. writeAnswer t out))
+got-refused shown why out told made =
+    ap (λ (k : Count). (k, out)) made ∙ ap (written out) (shown-refused shown why (λ t. writeAnswer t out) told)
+
+pub got-given : (shown : Answer (List ℕ)) (out : List ℕ) {part new : List ℕ} {r : Count} → gives tt ≡ refusalOf shown → part ≡ orEmpty shown
+    → (r, new) ≡ written out (writeAnswer part out) → (r, new) ≡ written out (onGiven shown (λ t. writeAnswer t out))
+got-given shown out told part copied =
+    copied ∙ ap (λ (t : List ℕ). written out (writeAnswer t out)) part ∙ ap (written out) (shown-given shown (λ t. writeAnswer t out) told)

@@ -1,0 +1,45 @@
+use Rattle.msi.specs.Columns.{valueIn}
+use Rattle.msi.specs.Answers.{flagIn}
+use Rattle.column.specs.declared.column.Column.{Column}
+use Rattle.column.specs.Check.{checkAnswer}
+use Rattle.value.specs.declared.ValueRef.{ValueRef}
+use Rattle.value.specs.Kinds.{kindOf, numberOf}
+use denote.Ref.{now}
+use mir.ValLaws.{toZ-ofZ}
+use mir.Val.{SFits, toZ, ofZ}
+use mir.Syntax.{w32}
+use lib.IntN.{ℤ}
+use mathlib.Core.Path.{_≡_, ap, ap₂, _∙_}
+use borrow.Author.Needs.{needs}
+use Rattle.msi.proofs.columns.strandroost_is_valid_value.Statement.{statement}
+use Rattle.msi.proofs.columns.strandroost_is_valid_value.Tie as tie
+
+column-in-requires : tie.Need-column-in-requires
+column-in-requires c κs = search needs
+
+value-in-requires : tie.Need-value-in-requires
+value-in-requires c κs = search needs
+
+is-valid-value-requires : tie.Need-is-valid-value-requires
+is-valid-value-requires c κs = search needs
+
+from-check-requires : tie.Need-from-check-requires
+from-check-requires c κs = search needs
+
+returns : tie.Need-returns
+returns c =
+    let number-fits : SFits w32 (c .before .before .before .before .before .args .number) = search needs in
+    let number-back : toZ w32 (ofZ w32 (c .before .before .before .before .before .args .number)) ≡ c .before .before .before .before .before .args .number = toZ-ofZ w32 (c .before .before .before .before .before .args .number) number-fits in
+    let s = c .before .before .before .before .before .args in
+    c .from-check .ensures ∙ ap flagIn (c .before .is-valid-value .ensures ∙ ap₂ (λ (x : Column) (v : ValueRef). checkAnswer x (kindOf v) (numberOf v) (now (s .text)))
+    (c .before .before .before .column-in .ensures) (c .before .before .value-in .ensures ∙ ap (valueIn (s .kind)) number-back))
+
+pub strandroost-is-valid-value-spec : {M : Type 1} → statement M
+strandroost-is-valid-value-spec =
+    tie.close
+    (tie.spec
+    column-in-requires
+    value-in-requires
+    is-valid-value-requires
+    from-check-requires
+    returns)

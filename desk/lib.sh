@@ -1,0 +1,99 @@
+# What the desk's scripts share: where things stand, and how Rust is compiled and run for each side.
+# The crate's side is built for this machine. The port's archive is for x86-64 alone: elsewhere its programs are cross-compiled with
+# Debian's rustc-web and run under the toolchain's emulator.
+desk=$(cd "$(dirname "$0")" && pwd)
+home=$(dirname "$desk")
+made=$desk/out
+crate=${STRANDROOST_CRATE:-$home/../shared/docs/src/src/internal}
+registry=${STRANDROOST_REGISTRY:-/usr/share/cargo/registry}
+modules="category codepage column language macros streamname stringpool table value"
+
+say() { echo "desk: $*" >&2; }
+fail() { say "$*"; exit 2; }
+native() { [ "$(uname -m)" = x86_64 ]; }
+
+# The toolchain's loader, C library and emulator, found from rt itself.
+toolchain() {
+    kit=$(dirname "$(dirname "$(readlink -f "$(command -v rt)")")")
+    echo "${RATTLE_TOOLCHAIN:-$kit/on/$(uname -m)/toolchain}"
+}
+
+# run_x86 PROGRAM ARG..: in place of this shell, or under the emulator
+run_x86() {
+    if native; then exec "$@"; fi
+    t=$(toolchain)
+    exec "$t/bin/qemu-x86_64" "$t/lib/ld-linux-x86-64.so.2" --library-path "$t/lib" "$@"
+}
+
+optimized="-C opt-level=3 -C debug-assertions=off -C overflow-checks=off -C codegen-units=${CODEGEN_UNITS:-16}"
+
+# rustc_here ARG..: for this machine
+rustc_here() { rustc $optimized "$@"; }
+
+# rustc_x86 ARG..: for x86-64
+rustc_x86() {
+    if native; then rustc_here "$@"; return; fi
+    root=$made/x86
+    LD_LIBRARY_PATH=$root/usr/lib/$(uname -m)-linux-gnu "$root/usr/bin/rustc" $optimized --target x86_64-unknown-linux-gnu \
+        --sysroot "$root/usr" -C linker=x86_64-linux-gnu-gcc -C link-arg="$made/startup.o" "$@"
+}
+
+# Debian's Rust compiler for this machine with its library for x86-64, unpacked beside the builds; nothing of it is installed.
+unpack_x86() {
+    if native || [ -d "$made/x86/usr/lib/rustlib/x86_64-unknown-linux-gnu" ]; then return; fi
+    say "unpacking Debian's rustc-web with its x86-64 library (once)"
+    work=$(mktemp -d)
+    std=$(apt-cache depends rustc-web | sed -n 's/.*Depends: \(libstd-rust-web-[0-9.]*\)$/\1/p' | head -n 1)
+    llvm=$(apt-cache depends "$std" | sed -n 's/.*Depends: \(libllvm[0-9]*\)$/\1/p' | head -n 1)
+    mkdir -p "$work/lists/partial" "$work/cache/archives/partial" "$work/state"
+    : > "$work/state/status"
+    cat > "$work/apt.conf" <<CONF
+APT::Architecture "amd64";
+APT::Architectures { "amd64"; };
+APT::Sandbox::User "root";
+Dir::State "$work/state";
+Dir::State::lists "$work/lists";
+Dir::State::status "$work/state/status";
+Dir::Cache "$work/cache";
+CONF
+    (cd "$work" && apt-get -qq -o APT::Sandbox::User=root download rustc-web "$std" "$llvm" &&
+        APT_CONFIG=$work/apt.conf apt-get -qq update &&
+        APT_CONFIG=$work/apt.conf apt-get -qq download libstd-rust-web-dev) || fail "Debian's rustc-web cannot be had"
+    mkdir -p "$made/x86"
+    for package in "$work"/*.deb; do dpkg -x "$package" "$made/x86"; done
+    rm -rf "$work"
+}
+
+# The emulator breaks where the C library reads the memory map for a thread's stack, as Rust does on its way to `main`; Rust goes
+# on without it where the call is refused.
+startup_x86() {
+    if native; then return; fi
+    echo 'int pthread_getattr_np(void *thread, void *attributes) { return 38; }' |
+        x86_64-linux-gnu-gcc -O2 -x c -c - -o "$made/startup.o"
+}
+
+# rust_libraries COMPILER DIR: the three packages that the crate leans on
+rust_libraries() {
+    compiler=$1
+    libs=$2
+    mkdir -p "$libs"
+    library() {
+        name=$1
+        shift
+        "$compiler" --cap-lints allow --crate-type rlib --crate-name "$name" -L "$libs" -o "$libs/lib$name.rlib" "$@"
+    }
+    library cfg_if "$registry"/cfg-if-1.*/src/lib.rs --edition 2018
+    library byteorder "$registry"/byteorder-1.*/src/lib.rs --edition 2018 --cfg 'feature="std"'
+    library encoding_rs "$registry"/encoding_rs-0.8.*/src/lib.rs --edition 2018 --cfg 'feature="alloc"' --extern cfg_if="$libs/libcfg_if.rlib"
+    library uuid "$registry"/uuid-1.*/src/lib.rs --edition 2018 --cfg 'feature="std"'
+}
+
+# stage: the crate's unchanged modules beside the desk's own sources, for one compilation (the crate's table calls are its own)
+stage() {
+    rm -rf "$made/stage"
+    mkdir -p "$made/stage/internal"
+    for module in $modules; do
+        cp "$crate/$module.rs" "$made/stage/internal/" 2>/dev/null || fail "the crate's source is not at $crate (STRANDROOST_CRATE names it)"
+    done
+    cp "$desk"/src/*.rs "$made/stage/"
+}

@@ -1,0 +1,272 @@
+//! `desk/bench`: the crate and the port on the same inputs, in one program and one run. Prints a line for each measurement: what,
+//! at what size, the crate's nanoseconds and the port's, the best of several rounds each.
+//! Buffers: the crate makes its own in every call, as its signatures ask; the port's rooms and outputs are lent, and have been
+//! written before. Inputs lie in memory before the clock starts.
+#![allow(dead_code, unused_macros)]
+
+extern crate byteorder;
+extern crate encoding_rs;
+extern crate uuid;
+
+mod internal {
+    #[macro_use]
+    mod macros;
+    pub mod category;
+    pub mod codepage;
+    pub mod column;
+    pub mod language;
+    pub mod streamname;
+    pub mod stringpool;
+    pub mod table;
+    pub mod value;
+}
+
+use internal::column::Column;
+use internal::streamname;
+use internal::stringpool::{StringPool, StringPoolBuilder, StringRef};
+use internal::table::Table;
+use internal::value::ValueRef;
+use std::hint::black_box;
+use std::io::Cursor;
+use std::rc::Rc;
+use std::time::Instant;
+use strandroost::calls::{self, Rooms, RoomsMut, State};
+
+const ROUNDS: usize = 5;
+const BITS: [i32; 6] = [0x2d48, 0x502, 0x104, 0xd00, 0x1d00, 0x1502];
+const ROW_BYTES: usize = 14;
+
+/// Nanoseconds of a call: the best of several rounds, each of so many calls, with what `before` makes outside the clock.
+fn timed<T>(calls: usize, mut before: impl FnMut() -> T, mut call: impl FnMut(T)) -> f64 {
+    let mut best = f64::MAX;
+    for _ in 0..ROUNDS {
+        let inputs: Vec<T> = (0..calls).map(|_| before()).collect();
+        let clock = Instant::now();
+        for input in inputs {
+            call(input);
+        }
+        best = best.min(clock.elapsed().as_nanos() as f64 / calls as f64);
+    }
+    best
+}
+
+fn show(what: &str, size: usize, krate: f64, port: f64) {
+    println!("{what}\t{size}\t{krate:.1}\t{port:.1}");
+}
+
+// ---------------------------------------------------------------- names
+
+fn names() -> Vec<String> {
+    (0..1000).map(|n| format!("Component{n:05}_FontTable-{}", n % 7)).collect()
+}
+
+fn bench_names() {
+    let plain = names();
+    let units: Vec<Vec<u16>> = plain.iter().map(|name| name.encode_utf16().collect()).collect();
+    let stored: Vec<String> = plain.iter().map(|name| streamname::encode(name, true)).collect();
+    let stored_units: Vec<Vec<u16>> = stored.iter().map(|name| name.encode_utf16().collect()).collect();
+    let mut out = vec![0u16; 80];
+    let krate = timed(20, || (), |()| plain.iter().for_each(|name| drop(black_box(streamname::encode(name, true)))));
+    let port = timed(20, || (), |()| units.iter().for_each(|name| drop(black_box(calls::encode(name, true, &mut out)))));
+    show("encode", 1000, krate, port);
+    let krate = timed(20, || (), |()| stored.iter().for_each(|name| drop(black_box(streamname::decode(name)))));
+    let port = timed(20, || (), |()| stored_units.iter().for_each(|name| drop(black_box(calls::decode(name, &mut out)))));
+    show("decode", 1000, krate, port);
+    let krate = timed(20, || (), |()| plain.iter().for_each(|name| drop(black_box(streamname::is_valid(name, true)))));
+    let port = timed(20, || (), |()| units.iter().for_each(|name| drop(black_box(calls::is_valid(name, true)))));
+    show("is_valid", 1000, krate, port);
+}
+
+// ----------------------------------------------------------------- pool
+
+struct Pools {
+    stream: Vec<u8>,
+    data: Vec<u8>,
+    krate: StringPool,
+    state: State,
+    lengths: Vec<u32>,
+    counts: Vec<u16>,
+    text: Vec<u8>,
+    out: Vec<u8>,
+}
+
+fn text_at(n: usize, mixed: bool) -> String {
+    match mixed {
+        false => format!("Component{n:06}"),
+        true => format!("Component{n:06}.Font_{}", &"Serif-BoldItalic"[..n * 7919 % 17]),
+    }
+}
+
+fn crate_load(stream: &[u8], data: &[u8]) -> StringPool {
+    let builder = StringPoolBuilder::read_from_pool(Cursor::new(stream)).expect("a good pool stream");
+    builder.build_from_data(Cursor::new(data)).expect("a good data stream")
+}
+
+fn crate_ref(number: usize) -> StringRef {
+    let bytes = (number as u32).to_le_bytes();
+    StringRef::read(&mut &bytes[..3], true).expect("three bytes").expect("a number above 0")
+}
+
+impl Pools {
+    fn new(entries: usize, mixed: bool) -> Pools {
+        let (mut stream, mut data) = (0x8000_04e4u32.to_le_bytes().to_vec(), Vec::new());
+        for n in 0..entries {
+            let text = text_at(n, mixed);
+            stream.extend((text.len() as u16).to_le_bytes());
+            stream.extend(1u16.to_le_bytes());
+            data.extend(text.bytes());
+        }
+        let krate = crate_load(&stream, &data);
+        let (lengths, counts) = (vec![0; entries + 64], vec![0; entries + 64]);
+        let (text, out) = (vec![0; data.len() + 65_536], vec![0; data.len() + 8 * entries + 64]);
+        let state = calls::new(1252).expect("a known code page");
+        let mut made = Pools { stream, data, krate, state, lengths, counts, text, out };
+        made.state = made.port_load();
+        made
+    }
+
+    fn port_load(&mut self) -> State {
+        let rooms = RoomsMut { lengths: &mut self.lengths, counts: &mut self.counts, text: &mut self.text };
+        calls::load(&self.stream, &self.data, rooms).expect("rooms that suffice")
+    }
+
+    fn rooms(&self) -> Rooms<'_> {
+        Rooms { lengths: &self.lengths, counts: &self.counts, text: &self.text }
+    }
+
+    fn port_take(&mut self, text: &[u8]) {
+        let rooms = RoomsMut { lengths: &mut self.lengths, counts: &mut self.counts, text: &mut self.text };
+        self.state = calls::incref(self.state, rooms, text).expect("a take").1;
+    }
+
+    fn port_drop(&mut self, number: usize) {
+        let rooms = RoomsMut { lengths: &mut self.lengths, counts: &mut self.counts, text: &mut self.text };
+        self.state = calls::decref(self.state, rooms, number as i32).expect("a drop");
+    }
+
+    fn bench_streams(&mut self, entries: usize) {
+        let times = 300_000 / entries + 1;
+        let krate = timed(times, || (), |()| drop(black_box(crate_load(&self.stream, &self.data))));
+        let port = timed(times, || (), |()| drop(black_box(self.port_load())));
+        show("load", entries, krate, port);
+        let krate = timed(times, Vec::new, |mut out: Vec<u8>| self.krate.write_pool(&mut out).expect("a vector takes all"));
+        let mut out = std::mem::take(&mut self.out);
+        let port = timed(times, || (), |()| drop(black_box(calls::write_pool(self.state, self.rooms(), &mut out))));
+        show("write_pool", entries, krate, port);
+        let krate = timed(times, Vec::new, |mut out: Vec<u8>| self.krate.write_data(&mut out).expect("a vector takes all"));
+        let port = timed(times, || (), |()| drop(black_box(calls::write_data(self.state, self.rooms(), &mut out))));
+        show("write_data", entries, krate, port);
+        self.out = out;
+    }
+
+    fn bench_hit(&mut self, what: &str, entries: usize, text: &str) {
+        let krate = timed(20, || text.to_string(), |text| drop(black_box(self.krate.incref(text))));
+        let port = timed(20, || (), |()| self.port_take(text.as_bytes()));
+        show(what, entries, krate, port);
+    }
+
+    /// A text that is not there: an entry is added. The pool grows by 100 entries on each side.
+    fn bench_miss(&mut self, what: &str, entries: usize) {
+        self.lengths.resize(entries + 1024, 0);
+        self.counts.resize(entries + 1024, 0);
+        let mut next = entries;
+        let mut fresh = || {
+            next += 1;
+            text_at(900_000 + next, false)
+        };
+        let krate = timed(10, &mut fresh, |text| drop(black_box(self.krate.incref(text))));
+        let mut next = entries;
+        let mut fresh = || {
+            next += 1;
+            text_at(900_000 + next, false)
+        };
+        let port = timed(10, &mut fresh, |text| self.port_take(text.as_bytes()));
+        show(what, entries, krate, port);
+    }
+
+    fn bench_numbers(&mut self, entries: usize) {
+        let middle = entries / 2;
+        let krate = timed(20, || (), |()| drop(black_box(self.krate.get(crate_ref(middle)).len())));
+        let mut out = std::mem::take(&mut self.out);
+        let port = timed(20, || (), |()| drop(black_box(calls::get(self.state, self.rooms(), middle as i32, &mut out))));
+        self.out = out;
+        show("get", entries, krate, port);
+        // The last entry was taken 100 times over by the hits, so its count stays above 0.
+        let krate = timed(10, || (), |()| self.krate.decref(crate_ref(entries)));
+        let port = timed(10, || (), |()| self.port_drop(entries));
+        show("drop, text stays", entries, krate, port);
+        // Entries with one reference: the text goes, and the tail moves.
+        let mut at = middle;
+        let krate = timed(
+            10,
+            || {
+                at += 1;
+                at
+            },
+            |number| self.krate.decref(crate_ref(number)),
+        );
+        let mut at = middle;
+        let port = timed(
+            10,
+            || {
+                at += 1;
+                at
+            },
+            |number| self.port_drop(number),
+        );
+        show("drop, text goes", entries, krate, port);
+    }
+}
+
+fn bench_pools() {
+    for entries in [1_000, 10_000, 60_000] {
+        for mixed in [false, true] {
+            let mut pools = Pools::new(entries, mixed);
+            let lengths = if mixed { "mixed" } else { "equal" };
+            if mixed {
+                pools.bench_streams(entries);
+            }
+            pools.bench_hit(&format!("take, last of {lengths} lengths"), entries, &text_at(entries - 1, mixed));
+            pools.bench_hit(&format!("take, middle of {lengths} lengths"), entries, &text_at(entries / 2, mixed));
+            if !mixed {
+                pools.bench_hit("take, first", entries, &text_at(0, mixed));
+            }
+            pools.bench_miss(&format!("take, new among {lengths} lengths"), entries);
+            if mixed {
+                pools.bench_numbers(entries);
+            }
+        }
+    }
+}
+
+// --------------------------------------------------------------- tables
+
+fn bench_table(rows: usize) {
+    let stream: Vec<u8> = (0..rows * ROW_BYTES).map(|at| (at * 31 % 251) as u8).collect();
+    let columns = BITS.iter().map(|bits| Column::build("x").with_bitfield(*bits).expect("good bits")).collect();
+    let table: Rc<Table> = Table::new("T".into(), columns, false);
+    let (mut kinds, mut numbers) = (vec![0u8; rows * BITS.len()], vec![0i32; rows * BITS.len()]);
+    let times = 60_000 / rows + 1;
+    let krate = timed(times, || (), |()| drop(black_box(table.read_rows(Cursor::new(&stream)).expect("good rows"))));
+    let port = timed(times, || (), |()| drop(black_box(calls::read_rows(&BITS, false, &stream, &mut kinds, &mut numbers))));
+    show("read_rows", rows, krate, port);
+    let cells: Vec<Vec<ValueRef>> = table.read_rows(Cursor::new(&stream)).expect("good rows");
+    let mut out = vec![0u8; stream.len()];
+    let krate = timed(
+        times,
+        || (Vec::with_capacity(stream.len()), cells.clone()),
+        |(mut out, cells)| table.write_rows(&mut out, cells).expect("a vector takes all"),
+    );
+    let port =
+        timed(times, || (), |()| drop(black_box(calls::write_rows(&BITS, false, rows, &kinds, &numbers, &mut out))));
+    show("write_rows", rows, krate, port);
+    assert!(out == stream, "the port wrote another stream");
+}
+
+fn main() {
+    bench_names();
+    bench_pools();
+    for rows in [1_000, 10_000, 65_536] {
+        bench_table(rows);
+    }
+}

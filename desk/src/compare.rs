@@ -1,0 +1,231 @@
+//! `desk/compare`: generated commands to the crate and the port, answer against answer.
+//! Arguments: seed, scale, then the words that start the crate's side, `--`, and those that start the port's.
+mod cases;
+#[allow(dead_code)]
+mod language;
+mod lent;
+mod pipes;
+mod random;
+
+use cases::{Case, Cases};
+use pipes::Both;
+use std::collections::BTreeMap;
+use std::io::Write;
+use std::time::Instant;
+
+const BATCH_LINES: usize = 4_000;
+const BATCH_BYTES: usize = 1 << 20;
+
+struct Run {
+    sides: [Vec<String>; 2],
+    both: Both,
+    waiting: Vec<Case>,
+    lines: usize,
+    bytes: usize,
+    agreed: BTreeMap<String, u64>,
+    total: u64,
+    began: Instant,
+    shown: Instant,
+}
+
+fn kind(line: &str) -> String {
+    line.split(' ').next().unwrap_or("").to_string()
+}
+
+/// The first line on which the sides differ.
+fn difference(answers: &(Vec<String>, Vec<String>)) -> Option<usize> {
+    answers.0.iter().zip(&answers.1).position(|(krate, port)| krate != port || krate == "(ended)")
+}
+
+impl Run {
+    fn new(sides: [Vec<String>; 2]) -> std::io::Result<Run> {
+        let both = Both::start(&sides[0], &sides[1])?;
+        let now = Instant::now();
+        Ok(Run { sides, both, waiting: Vec::new(), lines: 0, bytes: 0, agreed: BTreeMap::new(), total: 0, began: now, shown: now })
+    }
+
+    fn add(&mut self, case: Case) {
+        self.lines += case.len();
+        self.bytes += case.iter().map(String::len).sum::<usize>();
+        self.waiting.push(case);
+        if self.lines >= BATCH_LINES || self.bytes >= BATCH_BYTES {
+            self.flush();
+        }
+    }
+
+    fn flush(&mut self) {
+        let cases = std::mem::take(&mut self.waiting);
+        (self.lines, self.bytes) = (0, 0);
+        let lines: Vec<String> = cases.concat();
+        let answers = self.both.ask(&lines);
+        if let Some(at) = difference(&answers) {
+            self.report(&cases, at, &answers);
+        }
+        for (line, answer) in lines.iter().zip(&answers.0) {
+            // The generator emits nothing outside the domain but where a damaged text is read, which the crate says.
+            let word = if answer == "outside" || answer == "bad" { "(outside)".into() } else { kind(line) };
+            *self.agreed.entry(word).or_default() += 1;
+        }
+        self.total += lines.len() as u64;
+        self.progress();
+    }
+
+    fn progress(&mut self) {
+        if self.shown.elapsed().as_secs() >= 2 {
+            self.shown = Instant::now();
+            eprint!("\rcompare: {} commands agreed, {} s ", self.total, self.began.elapsed().as_secs());
+            let _ = std::io::stderr().flush();
+        }
+    }
+
+    /// Whether a case run alone still shows a difference, and which.
+    fn alone(&self, case: &[String]) -> Option<(usize, String, String)> {
+        let mut both = Both::start(&self.sides[0], &self.sides[1]).ok()?;
+        let answers = both.ask(case);
+        let at = difference(&answers)?;
+        Some((at, answers.0[at].clone(), answers.1[at].clone()))
+    }
+
+    fn report(&mut self, cases: &[Case], line: usize, answers: &(Vec<String>, Vec<String>)) -> ! {
+        let (mut before, mut found) = (0, &cases[0]);
+        for case in cases {
+            found = case;
+            if line < before + case.len() {
+                break;
+            }
+            before += case.len();
+        }
+        let case = found[..=line - before].to_vec();
+        eprintln!("\ncompare: they differ; looking for a smaller input");
+        let smallest = self.smallest(case);
+        println!("DIFFERED after {} commands that agreed", self.total);
+        match self.alone(&smallest) {
+            Some((_, krate, port)) => println!("{}\n  crate: {krate}\n  port:  {port}", smallest.join("\n")),
+            None => println!("{}\n  crate: {}\n  port:  {}", smallest.join("\n"), answers.0[line], answers.1[line]),
+        }
+        std::process::exit(1);
+    }
+
+    fn smallest(&self, mut case: Case) -> Case {
+        let mut tries = 300;
+        let mut better = true;
+        while better && tries > 0 {
+            better = false;
+            for smaller in smaller_cases(&case) {
+                tries -= 1;
+                if let Some((at, ..)) = self.alone(&smaller) {
+                    case = smaller[..=at].to_vec();
+                    better = true;
+                    break;
+                }
+                if tries == 0 {
+                    break;
+                }
+            }
+        }
+        case
+    }
+
+    /// Commands on lent memory: the port against what is expected of it.
+    fn lent(&mut self, case: &lent::LentCase) {
+        let lines: Vec<String> = case.lines.iter().map(|(line, _)| line.clone()).collect();
+        let (krate, port) = self.both.ask(&lines);
+        for (at, answer) in port.iter().enumerate() {
+            let Some(expected) = lent::expected(case, at, &krate) else { continue };
+            // Of `held`, the rooms and the output are looked at by turns.
+            let same = match lines[at].as_str() {
+                "held" => answer.starts_with(&(expected.clone() + " ")) || answer.rsplit(' ').next() == Some(&expected),
+                _ => *answer == expected,
+            };
+            if !same {
+                println!("DIFFERED after {} commands that agreed", self.total);
+                println!("{}\n  expected: {expected}\n  port:     {answer}", lines[..=at].join("\n"));
+                std::process::exit(1);
+            }
+            *self.agreed.entry(format!("({})", case.kind)).or_default() += 1;
+            self.total += 1;
+        }
+        self.progress();
+    }
+
+    fn summary(&self) {
+        eprintln!();
+        println!("{:>10}  command", "agreed");
+        for (word, count) in &self.agreed {
+            println!("{count:>10}  {word}");
+        }
+        println!("{:>10}  in all, 0 differed, {} s", self.total, self.began.elapsed().as_secs());
+    }
+}
+
+/// Cases with a stretch of commands left out, longest stretches first; then with a word of the last command made shorter.
+fn smaller_cases(case: &[String]) -> Vec<Case> {
+    let mut found = Vec::new();
+    let mut stretch = case.len() / 2;
+    while stretch > 0 {
+        for start in (0..case.len()).step_by(stretch) {
+            let end = (start + stretch).min(case.len());
+            found.push([&case[..start], &case[end..]].concat());
+        }
+        stretch /= 2;
+    }
+    for (at, line) in case.iter().enumerate().rev().take(4) {
+        for shorter in shorter_lines(line) {
+            let mut copy = case.to_vec();
+            copy[at] = shorter;
+            found.push(copy);
+        }
+    }
+    found.retain(|smaller| !smaller.is_empty());
+    found
+}
+
+fn shorter_lines(line: &str) -> Vec<String> {
+    let words: Vec<&str> = line.split(' ').collect();
+    let mut found = Vec::new();
+    for at in 1..words.len() {
+        for shorter in shorter_words(words[at]) {
+            let mut copy = words.clone();
+            copy[at] = &shorter;
+            found.push(copy.join(" "));
+        }
+    }
+    found
+}
+
+/// A word of hexadecimal digits or a list, cut by halves, then by one unit or item at either end.
+fn shorter_words(word: &str) -> Vec<String> {
+    let parts: Vec<&str> = match word.contains(',') {
+        true => word.split(',').collect(),
+        false if word.len() >= 4 && word.len() % 2 == 0 => word.as_bytes().chunks(2).filter_map(|two| std::str::from_utf8(two).ok()).collect(),
+        false => return Vec::new(),
+    };
+    let glue = if word.contains(',') { "," } else { "" };
+    let (half, all) = (parts.len() / 2, parts.len());
+    [(0, half), (half, all), (0, all - 1), (1, all), (0, all.saturating_sub(2)), (2.min(all), all)]
+        .map(|(start, end)| if start < end { parts[start..end].join(glue) } else { "-".into() })
+        .to_vec()
+}
+
+fn main() -> std::io::Result<()> {
+    let words: Vec<String> = std::env::args().skip(1).collect();
+    if words == ["--short-list"] {
+        Cases { random: random::Random::new(1), scale: 1 }.short_list(&mut |line| println!("{line}"));
+        return Ok(());
+    }
+    let number = |at: usize| words.get(at).and_then(|word| word.parse::<u64>().ok());
+    let (Some(seed), Some(scale)) = (number(0), number(1)) else {
+        eprintln!("usage: desk/compare [SEED [SCALE]], both numbers; SCALE 100 is the default");
+        std::process::exit(2);
+    };
+    let mut sides = words[2..].split(|word| word == "--").map(<[String]>::to_vec);
+    let sides = [sides.next().unwrap_or_default(), sides.next().unwrap_or_default()];
+    let mut run = Run::new(sides)?;
+    let mut cases = Cases { random: random::Random::new(seed), scale: scale as usize };
+    cases.all(&mut |case| run.add(case));
+    run.flush();
+    let times = (20 * scale) as usize;
+    lent::cases(&mut cases.random, times, &mut |case| run.lent(&case));
+    run.summary();
+    Ok(())
+}

@@ -1,0 +1,23 @@
+# The measurements of several programs as a table: times in microseconds, ratios as ranges.
+function time(t) { return t < 10000 ? sprintf("%.2f", t / 1000) : t < 100000 ? sprintf("%.1f", t / 1000) : sprintf("%.0f", t / 1000) }
+function range(low, high) { return low == high ? low : low " to " high }
+{
+    key = $1 "\t" $2
+    if (!(key in seen)) { order[++n] = key; seen[key] = 1; low[key] = 1e99; crate[key] = 1e99; port[key] = 1e99 }
+    ratio = $4 / $3
+    if (ratio < low[key]) low[key] = ratio
+    if (ratio > high[key]) high[key] = ratio
+    if ($3 < crate[key]) crate[key] = $3
+    if ($3 > slow[key]) slow[key] = $3
+    if ($4 < port[key]) port[key] = $4
+    if ($4 > late[key]) late[key] = $4
+}
+END {
+    print "| call | size | crate, µs | port, µs | port over crate |"
+    print "|---|---:|---:|---:|---:|"
+    for (i = 1; i <= n; i++) {
+        split(order[i], part, "\t")
+        k = order[i]
+        printf "| %s | %d | %s | %s | %s |\n", part[1], part[2], range(time(crate[k]), time(slow[k])), range(time(port[k]), time(late[k])), range(sprintf("%.2f", low[k]), sprintf("%.2f", high[k]))
+    }
+}

@@ -1,0 +1,147 @@
+//! Columns of a table.
+
+use crate::calls::{self, ColumnParts, KindAndNumber};
+use crate::refusal::Result;
+use crate::value::Value;
+
+/// The type of a column.
+#[derive(Clone, Copy, Debug, PartialEq, Eq, Hash)]
+pub enum ColumnType {
+    /// Integers from -32,768 to 32,767, the smallest of which reads as Null.
+    Int16,
+    /// Integers of 32 bits, the smallest of which reads as Null.
+    Int32,
+    /// Texts, with the largest length in bytes, 0 for any.
+    Str(u32),
+    /// A stream of the database.
+    Binary,
+}
+
+/// A column: its type, marks and range.
+#[derive(Clone, Copy, Debug, PartialEq, Eq)]
+pub struct Column(ColumnParts);
+
+/// A column being made.
+#[derive(Clone, Copy, Debug, PartialEq, Eq)]
+pub struct ColumnBuilder(ColumnParts);
+
+impl Column {
+    /// Begins a column without marks.
+    ///
+    /// ```
+    /// use strandroost::{Column, ColumnType, Value};
+    ///
+    /// let column = Column::build().nullable().string(8);
+    /// assert_eq!(column.coltype(), ColumnType::Str(8));
+    /// assert_eq!(column.bitfield(), Ok(0x1d08));
+    /// assert_eq!(column.is_valid_value(&Value::Str(b"ABCDEFGHI".to_vec())), Ok(false));
+    /// ```
+    pub fn build() -> ColumnBuilder {
+        ColumnBuilder(ColumnParts {
+            coltype: 0,
+            max_len: 0,
+            is_localizable: false,
+            is_nullable: false,
+            is_primary_key: false,
+            range: None,
+        })
+    }
+
+    /// The type.
+    pub fn coltype(&self) -> ColumnType {
+        match self.0.coltype {
+            0 => ColumnType::Int16,
+            1 => ColumnType::Int32,
+            2 => ColumnType::Str(self.0.max_len),
+            _ => ColumnType::Binary,
+        }
+    }
+
+    /// The localizable mark.
+    pub fn is_localizable(&self) -> bool {
+        self.0.is_localizable
+    }
+
+    /// The nullable mark.
+    pub fn is_nullable(&self) -> bool {
+        self.0.is_nullable
+    }
+
+    /// The primary key mark.
+    pub fn is_primary_key(&self) -> bool {
+        self.0.is_primary_key
+    }
+
+    /// The least and the largest integer allowed.
+    pub fn value_range(&self) -> Option<(i32, i32)> {
+        self.0.range
+    }
+
+    /// The bits that stand for the column in `_Columns`. Refused with 19.
+    pub fn bitfield(&self) -> Result<i32> {
+        calls::column_bitfield(self.0)
+    }
+
+    /// Whether the column allows a value. Refused with 22, 19.
+    pub fn is_valid_value(&self, value: &Value) -> Result<bool> {
+        match value {
+            Value::Null => calls::is_valid_value(self.0, KindAndNumber { kind: 0, number: 0 }, &[]),
+            Value::Int(number) => calls::is_valid_value(self.0, KindAndNumber { kind: 1, number: *number }, &[]),
+            Value::Str(text) => calls::is_valid_value(self.0, KindAndNumber { kind: 2, number: 0 }, text),
+            Value::Binary => calls::is_valid_value(self.0, KindAndNumber { kind: 3, number: 0 }, &[]),
+        }
+    }
+
+    /// The bits of the column's type alone: a layout needs no more.
+    pub(crate) fn type_bits(&self) -> Result<i32> {
+        let ColumnBuilder(plain) = Column::build();
+        calls::column_bitfield(ColumnParts { coltype: self.0.coltype, max_len: self.0.max_len, ..plain })
+    }
+}
+
+impl ColumnBuilder {
+    /// Sets the localizable mark.
+    pub fn localizable(self) -> ColumnBuilder {
+        ColumnBuilder(ColumnParts { is_localizable: true, ..self.0 })
+    }
+
+    /// Sets the nullable mark.
+    pub fn nullable(self) -> ColumnBuilder {
+        ColumnBuilder(ColumnParts { is_nullable: true, ..self.0 })
+    }
+
+    /// Sets the primary key mark.
+    pub fn primary_key(self) -> ColumnBuilder {
+        ColumnBuilder(ColumnParts { is_primary_key: true, ..self.0 })
+    }
+
+    /// Sets the least and the largest integer allowed.
+    pub fn range(self, min: i32, max: i32) -> ColumnBuilder {
+        ColumnBuilder(ColumnParts { range: Some((min, max)), ..self.0 })
+    }
+
+    /// The column of integers of 16 bits.
+    pub fn int16(self) -> Column {
+        Column(ColumnParts { coltype: 0, max_len: 0, ..self.0 })
+    }
+
+    /// The column of integers of 32 bits.
+    pub fn int32(self) -> Column {
+        Column(ColumnParts { coltype: 1, max_len: 0, ..self.0 })
+    }
+
+    /// The column of texts of at most so many bytes, 0 for any. A maximum above 255 is refused with 19 where the column is used.
+    pub fn string(self, max_len: u32) -> Column {
+        Column(ColumnParts { coltype: 2, max_len, ..self.0 })
+    }
+
+    /// The column of streams.
+    pub fn binary(self) -> Column {
+        Column(ColumnParts { coltype: 3, max_len: 0, ..self.0 })
+    }
+
+    /// The column that bits name; a nullable mark and a range made before stay. Refused with 13.
+    pub fn with_bitfield(self, bits: i32) -> Result<Column> {
+        calls::column_from_bitfield(self.0, bits).map(Column)
+    }
+}

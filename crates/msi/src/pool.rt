@@ -19,7 +19,7 @@ use stringpool::StringRef;
 use stringpool::Taken;
 use stringpool::Written;
 ghost use mathlib.Core.Path.{_≡_};
-ghost use Rattle.common.specs.Answers.{gives, outcome};
+ghost use Rattle.common.specs.Answers.{gives, nowhere, outcome};
 ghost use Rattle.common.specs.Refusals.{refusedBy};
 ghost use Rattle.stringpool.specs.Pool.{rooms};
 ghost use Rattle.stringpool.specs.Refs.{madeAs, reference};

@@ -12,10 +12,11 @@ use Rattle.stringpool.specs.declared.pool.StringPool.{StringPool}
 use Rattle.stringpool.specs.declared.drops.Dropped.{Dropped}
 use Rattle.stringpool.specs.declared.drops.Dropped.the-variants as dropped
 
--- one reference less; at 0 the text goes
+-- "count down; at 0 the text goes"
 abbrev pub lessened : Entry → Entry
 lessened e = if e .count ≤? 1 then entry [] 0 else entry (e .text) (e .count - 1)
 
+-- "Drop: 8, 9, 10": "drop past the last entry", "drop of a count of 0"
 abbrev pub dropAt : StringPool → Rooms → ℕ → Answer (StringPool × Rooms)
 dropAt p w k =
     let es = entriesOf p w in

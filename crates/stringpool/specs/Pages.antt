@@ -16,7 +16,7 @@ pageAnswer p page =
     if maxCodepage <? page then refused 21 nowhere
     else gives (record { «num_strings» = p .«num_strings»; «long_string_refs» = p .«long_string_refs»; codepage = page })
 
--- an empty (short) pool
+-- "Making an empty (short) pool or setting the code page: 21."
 abbrev pub newAnswer : ℕ → Answer StringPool
 newAnswer page = pageAnswer (record { «num_strings» = 0; «long_string_refs» = false; codepage = 0 }) page
 

@@ -13,14 +13,15 @@ use Rattle.stringpool.specs.declared.shows.Counted.{Counted}
 use Rattle.stringpool.specs.declared.shows.Showable.the-variants as showable
 use Rattle.stringpool.specs.declared.shows.Counted.the-variants as counted
 
--- past the last entry: no text, and count 0
+-- "8, else the entry's bytes as a part of the lent text room; past the last entry, the empty part"
 abbrev pub showAnswer : StringPool → Rooms → ℤ → Answer (List ℕ)
 showAnswer p w r = onSound p w (onReference r (λ k. gives (getD (entriesOf p w) k (entry [] 0) .text)))
 
+-- "Its count likewise, 0 past the end."
 abbrev pub refcountAnswer : StringPool → Rooms → ℤ → Answer ℕ
 refcountAnswer p w r = onSound p w (onReference r (λ k. gives (getD (entriesOf p w) k (entry [] 0) .count)))
 
--- what `get` hands out: after a refusal the empty part
+-- "A refused show hands out the empty part; a call of its own answers the refusal number or none."
 abbrev pub orEmpty : Answer (List ℕ) → List ℕ
 orEmpty (gives t) = t
 orEmpty (refused n at) = []

@@ -13,13 +13,14 @@ use Rattle.stringpool.specs.declared.takes.Taken.{Taken}
 use Rattle.stringpool.specs.declared.takes.Taken.the-variants as taken
 use Rattle.common.specs.Sizes.{maxBytes, maxEntries}
 
+-- "the same bytes"
 abbrev pub sameBytes : List ℕ → List ℕ → Bool
 sameBytes [] [] = true
 sameBytes [] (y ∷ ys) = false
 sameBytes (x ∷ xs) [] = false
 sameBytes (x ∷ xs) (y ∷ ys) = x =? y && sameBytes xs ys
 
--- the same bytes, and a count below 65,535
+-- "that has the same bytes and a count below 65,535"
 abbrev pub equal : List ℕ → Entry → Bool
 equal t e = sameBytes (e .text) t && e .count <? 65535
 
@@ -32,19 +33,24 @@ firstPlace f (e ∷ es) = if f e then 0 else firstPlace f es + 1
 abbrev pub Chooser : Type 0
 Chooser = List ℕ → List Entry → ℕ
 
--- in entry order, the first entry that is free or equal
+-- "in entry order, the first entry that is free (count 0) or that has the same bytes and a count below 65,535"
 abbrev pub firstFreeOrEqual : Chooser
 firstFreeOrEqual t es = firstPlace (λ (e : Entry). free e || equal t e) es
 
+-- "An equal one counts up. A free one gets the text and count 1, and any old bytes go."
 abbrev pub increased : List ℕ → Entry → Entry
 increased t e = if free e then entry t 1 else entry (e .text) (e .count + 1)
 
+-- "With none, an entry is added."
 abbrev pub takenAt : List ℕ → ℕ → List Entry → List Entry
 takenAt t k es = if k <? length es then set es k (increased t (getD es k (entry [] 0))) else es ++ (entry t 1 ∷ [])
 
+-- the same mark and code page, with another entry count
 abbrev pub counting : StringPool → ℕ → StringPool
 counting p n = record { «num_strings» = n; «long_string_refs» = p .«long_string_refs»; codepage = p .codepage }
 
+-- "Take: 11, 12, 4, 6": the first three where a new entry is wanted, and "6 exactly if the total after the replacement or addition
+-- exceeds the text room; the chosen entry stays the choice"
 abbrev pub takeAt : StringPool → Rooms → List ℕ → ℕ → Answer ((ℤ × StringPool) × Rooms)
 takeAt p w t k =
     let es = entriesOf p w in
@@ -56,6 +62,7 @@ takeAt p w t k =
     else if length (w .text) <? length (texts after) then refused 6 nowhere
     else gives ((pos (k + 1), counting p (length after)), putBack p w after)
 
+-- 22 for the text and for the text room, then 24
 abbrev pub takeAnswer : Chooser → StringPool → Rooms → List ℕ → Answer ((ℤ × StringPool) × Rooms)
 takeAnswer choose p w t = if maxBytes <? length t then refused 22 nowhere else onSound p w (takeAt p w t (choose t (entriesOf p w)))
 

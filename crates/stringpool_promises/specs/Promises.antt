@@ -21,6 +21,7 @@ use Rattle.little_endian.specs.Promises.{AreBytes}
 use Rattle.stringpool.specs.declared.pool.StringPool.{StringPool}
 use Rattle.common.specs.Sizes.{maxBytes}
 
+-- a pool with the rooms that are lent to its calls
 pub record State : Type 0 where
   pub pool : StringPool
   pub rooms : Rooms
@@ -53,6 +54,7 @@ abbrev pub ran : State → List Call → State
 ran s [] = s
 ran s (c ∷ cs) = ran (after s c) cs
 
+-- within the size, and sound
 abbrev pub SoundState : State → Type 0
 SoundState s = (length (s .rooms .text) ≤ maxBytes) × (sound (s .pool) (s .rooms) ≡ true)
 
@@ -124,6 +126,8 @@ abbrev pub StaysCounted : ℤ → State → List Call → Type 0
 StaysCounted r s [] = 1 ≤ count s r
 StaysCounted r s (c ∷ cs) = (1 ≤ count s r) × StaysCounted r (after s c) cs
 
+-- the three laws, and that the state stays sound: for a text, the counts of its entries and the accepted drops of it are what there was and the accepted
+-- takes of it; for a reference likewise; and a reference that stays counted, from any call on, shows the same bytes
 pub record Demand3 (s : State) (cs : List Call) : Type 0 where
   pub text : (t : List ℕ) → sumFor t (entries (ran s cs)) + tally (gaveUp t) s cs ≡ sumFor t (entries s) + tally (took t) s cs
   pub reference : (r : ℤ) → count (ran s cs) r + tally (gaveUpRef r) s cs ≡ count s r + tally (tookRef r) s cs

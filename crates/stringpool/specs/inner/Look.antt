@@ -14,7 +14,6 @@ use Rattle.stringpool.specs.declared.refs.EntryPlace.{EntryPlace}
 use Rattle.stringpool.specs.declared.choice.Chosen.{Chosen}
 use Rattle.stringpool.specs.declared.choice.Chosen.the-variants.{Free, Added}
 use Rattle.stringpool.specs.declared.judge.Judged.the-variants as judged
-use Rattle.common.specs.Sizes.{maxBytes, maxEntries}
 
 -- the choice, where the entries before i are passed by
 abbrev pub PassedTo : ℕ → Rooms → List ℕ → ℕ → Type 0

@@ -1,4 +1,5 @@
-use Rattle.stringpool.specs.Refs.{referenceAnswer}
+use Rattle.stringpool.specs.Refs.{reference}
+use Rattle.common.specs.Answers.{nowhere}
 use mir.ValLaws.{toZ-ofZ}
 use mir.Val.{SFits, toZ, ofZ}
 use mir.Syntax.{w32}
@@ -20,7 +21,7 @@ returns c =
     let z : ℤ = c .before .before .args .number in
     let fits : SFits w32 z = search needs in
     let back : toZ w32 (ofZ w32 z) ≡ z = toZ-ofZ w32 z fits in
-    c .from-made .ensures ∙ ap referenceIn (c .before .new .ensures ∙ ap referenceAnswer back)
+    c .from-made .ensures ∙ ap referenceIn (c .before .new .ensures ∙ ap (reference nowhere) back)
 
 pub strandroost-string-ref-spec : {M : Type 1} → statement M
 strandroost-string-ref-spec = tie.close (tie.spec new-requires from-made-requires returns)

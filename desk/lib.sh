@@ -43,7 +43,8 @@ unpack_x86() {
     if native || [ -d "$made/x86/usr/lib/rustlib/x86_64-unknown-linux-gnu" ]; then return; fi
     say "unpacking Debian's rustc-web with its x86-64 library (once)"
     work=$(mktemp -d)
-    std=$(apt-cache depends rustc-web | sed -n 's/.*Depends: \(libstd-rust-web-[0-9.]*\)$/\1/p' | head -n 1)
+    apt-cache show libstd-rust-web-dev > /dev/null 2>&1 || apt-get -qq update
+    std=$(apt-cache depends libstd-rust-web-dev | sed -n 's/.*Depends: \(libstd-rust-web-[0-9.]*\)$/\1/p' | head -n 1)
     llvm=$(apt-cache depends "$std" | sed -n 's/.*Depends: \(libllvm[0-9]*\)$/\1/p' | head -n 1)
     mkdir -p "$work/lists/partial" "$work/cache/archives/partial" "$work/state"
     : > "$work/state/status"

@@ -1,11 +1,11 @@
 -- The laws of `decoded` that the loops go by.
-use Prim.Native.Nat.{ℕ, suc, _+_, _-_, _/_, _%_, _≤_, _<_}
+use Prim.Native.Nat.{ℕ, suc, _+_, _-_, _*_, _/_, _%_, _≤_, _<_}
 use mathlib.Core.Path.{_≡_, refl}
 use mathlib.Core.Bool.{Bool, true, false}
 use mathlib.Core.List.{List, [], _∷_, _++_}
 use native.Mathlib.Omega.{arith}
 use native.Mathlib.Numerals.{add-one}
-use lib.ListN.{length, drop, getD, drop-of-length-le}
+use lib.ListN.{length, drop, getD, drop-of-length-le, length-append}
 use lib.Seq.{drop-cons}
 use borrow.Author.Tests.{lt-ltb, le-ltb}
 use Rattle.streamname.specs.Letters.{fromB64}
@@ -13,7 +13,7 @@ use Rattle.common.specs.Lists.{_over_}
 use Rattle.common.specs.Choice.{if_then_else_}
 use Rattle.common.specs.Sizes.{maxName, maxStored}
 use Rattle.common.specs.Answers.{gives, refused, nowhere}
-use Rattle.streamname.specs.Names.{undone, decoded, isTable, stripped, decodedName}
+use Rattle.streamname.specs.Names.{between, undone, decoded, isTable, stripped, decodedName}
 use Rattle.streamname.specs.Calls.{decodeOutcome}
 use Rattle.streamname.specs.inner.Packing.{unitsOf}
 use Rattle.streamname.specs.declared.decoding.Unpacked.{Unpacked}
@@ -42,6 +42,21 @@ decoded-next stored i u h e = rw (e, add-one, drop-cons stored i 0 h)
 pub short : (u : Unpacked) → length (unitsOf u) ≤ 2
 short (One a) = omega arith
 short (Two a b) = omega arith
+
+-- a stored unit stands for one unit or two
+undone-short : (v : ℕ) → length (undone v) ≤ 2
+unfolding undone
+undone-short v = go (between 0x3800 0x47FF v) (between 0x4800 0x483F v)
+  where
+    go : (p q : Bool) → length (if p then fromB64 ((v - 0x3800) % 64) ∷ fromB64 ((v - 0x3800) / 64) ∷ [] else if q then fromB64 (v - 0x4800) ∷ [] else v ∷ []) ≤ 2
+    go true q = omega arith
+    go false true = omega arith
+    go false false = omega arith
+
+pub decoded-short : (stored : List ℕ) → length (decoded stored) ≤ length stored * 2
+unfolding decoded
+decoded-short [] = omega arith
+decoded-short (v ∷ rest) = simp length-append (omega (arith, undone-short v, decoded-short rest))
 
 -- past the end nothing is left
 pub decoded-end : (stored : List ℕ) (i : ℕ) → length stored ≤ i → decoded (drop i stored) ≡ []

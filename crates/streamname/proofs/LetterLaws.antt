@@ -112,11 +112,9 @@ underscore = refl
 
 abbrev pub spelled : ℕ → ℕ
 spelled n =
-    if n <? 10 then n + 0x30
-    else if n <? 36 then n - 10 + 0x41
-    else if n <? 62 then n - 36 + 0x61
-    else if n =? 62 then 0x2E
-    else 0x5F
+    if 35 <? n then (if n <? 62 then n - 36 + 0x61 else if n =? 62 then 0x2E else 0x5F)
+    else if n <? 10 then n + 0x30
+    else n - 10 + 0x41
 
 abbrev spelledRight : ℕ → Bool
 spelledRight n = fromB64 n =? spelled n && fromB64 n <? 0x7B

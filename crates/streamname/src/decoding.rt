@@ -1,12 +1,13 @@
 // Undoing a stored name: its length, and its units.
 use crate::TABLE_PREFIX;
 use crate::letters::from_b64;
+use common::sizes::MAX_NAME;
 ghost use mathlib.Core.Path.{_≡_};
 ghost use Prim.Native.Nat.{_+_, _≤_};
 ghost use lib.ListN.{length};
-ghost use Rattle.common.specs.Lists.{_over_};
 ghost use Rattle.streamname.specs.Names.{undone, decoded, isTable, stripped};
-ghost use Rattle.streamname.specs.inner.Packing.{unitsOf, Put};
+ghost use Rattle.streamname.specs.inner.Packing.{unitsOf, Put, Bound};
+ghost use Rattle.common.specs.Sizes.{maxName};
 ghost use Rattle.common.specs.Choice.{if_then_else_};
 
 // What a stored unit stands for.
@@ -51,6 +52,18 @@ pub(crate) fn decoded_len(stored: &[u16]) -> usize
     units
 }
 
+// The same, but no unit is looked at where two places for each are there anyhow, within the size of a name.
+pub(crate) fn decoded_bound(stored: &[u16], places: usize) -> usize
+    ensures { λ r. ⌜ Bound (length (decoded (now (stored .entry)))) places r × Bound (length (decoded (now (stored .entry)))) maxName r ⌝ }
+{
+    if stored.len() <= places / 2 {
+        if stored.len() <= MAX_NAME / 2 {
+            return stored.len() * 2;
+        }
+    }
+    decoded_len(stored)
+}
+
 // Writes a stored unit's units to `out` from `at` on, which has room for them, and answers where they end.
 fn put_units(units: Unpacked, out: &mut [u16], at: usize) -> usize
     requires { ⌜ at + length (unitsOf units) ≤ length (now out) ⌝ }
@@ -69,10 +82,10 @@ fn put_units(units: Unpacked, out: &mut [u16], at: usize) -> usize
     }
 }
 
-// Writes the undone name to the front of `out`, which has room for it.
-pub(crate) fn write_decoded(stored: &[u16], out: &mut [u16])
+// Writes the undone name to the front of `out`, which has room for it, and answers how many units that are.
+pub(crate) fn write_decoded(stored: &[u16], out: &mut [u16]) -> usize
     requires { ⌜ length (decoded (now stored)) ≤ length (now out) ⌝ }
-    ensures { λ _. ⌜ now (out .exit) ≡ decoded (now (stored .entry)) over now (out .entry) ⌝ }
+    ensures { λ r. ⌜ Put (decoded (now (stored .entry))) 0 (now (out .entry)) r (now (out .exit)) ⌝ }
 {
     let mut at = 0;
     let mut i = 0;
@@ -80,6 +93,7 @@ pub(crate) fn write_decoded(stored: &[u16], out: &mut [u16])
         at = put_units(unpack(stored[i]), out, at);
         i += 1;
     }
+    at
 }
 
 // Whether a stored name is a table's.

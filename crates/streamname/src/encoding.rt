@@ -4,9 +4,8 @@ use crate::letters::to_b64;
 ghost use mathlib.Core.Path.{_≡_};
 ghost use Prim.Native.Nat.{_≤_, _<_};
 ghost use lib.ListN.{length};
-ghost use Rattle.common.specs.Lists.{_over_};
 ghost use Rattle.streamname.specs.Names.{encoded, encodedName};
-ghost use Rattle.streamname.specs.inner.Packing.{Front};
+ghost use Rattle.streamname.specs.inner.Packing.{Front, Put, Bound};
 
 // A packed unit, and how many units of the name it takes.
 pub(crate) struct Packed {
@@ -62,10 +61,20 @@ pub(crate) fn encoded_units(name: &[u16], is_table: bool) -> usize
     if is_table { units + 1 } else { units }
 }
 
-// Writes the packed name to the front of `out`, which has room for it.
-pub(crate) fn write_encoded(name: &[u16], out: &mut [u16])
+// The same, but no unit is looked at where a place for each and for the prefix is there anyhow.
+pub(crate) fn encoded_bound(name: &[u16], is_table: bool, places: usize) -> usize
+    ensures { λ r. ⌜ Bound (length (encodedName (now (name .entry)) «is_table»)) places r ⌝ }
+{
+    if name.len() < places {
+        return name.len() + 1;
+    }
+    encoded_units(name, is_table)
+}
+
+// Writes the packed name to the front of `out`, which has room for it, and answers how many units that are.
+pub(crate) fn write_encoded(name: &[u16], out: &mut [u16]) -> usize
     requires { ⌜ length (encoded (now name)) ≤ length (now out) ⌝ }
-    ensures { λ _. ⌜ now (out .exit) ≡ encoded (now (name .entry)) over now (out .entry) ⌝ }
+    ensures { λ r. ⌜ Put (encoded (now (name .entry))) 0 (now (out .entry)) r (now (out .exit)) ⌝ }
 {
     let mut at = 0;
     let mut i = 0;
@@ -75,4 +84,5 @@ pub(crate) fn write_encoded(name: &[u16], out: &mut [u16])
         at += 1;
         i += packed.used;
     }
+    at
 }

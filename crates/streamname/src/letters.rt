@@ -10,18 +10,35 @@ pub(crate) enum Packing {
     Other,
 }
 
-// The number of a letter: digits, A-Z, a-z, '.' and '_' are 0 to 63.
+// The number of a letter: digits, A-Z, a-z, '.' and '_' are 0 to 63. Small letters, the most frequent, are told by two tests.
 pub(crate) fn to_b64(unit: u16) -> Packing
     ensures { λ r. ⌜ letterOf r ≡ toB64 unit ⌝ }
 {
-    match unit {
-        0x30..=0x39 => Packing::Letter(unit - 0x30),
-        0x41..=0x5A => Packing::Letter(unit - 0x41 + 10),
-        0x61..=0x7A => Packing::Letter(unit - 0x61 + 36),
-        0x2E => Packing::Letter(62),
-        0x5F => Packing::Letter(63),
-        _ => Packing::Other,
+    if 0x60 < unit {
+        if unit < 0x7B {
+            return Packing::Letter(unit - 0x61 + 36);
+        }
+        return Packing::Other;
     }
+    if 0x40 < unit {
+        if unit < 0x5B {
+            return Packing::Letter(unit - 0x41 + 10);
+        }
+        if unit == 0x5F {
+            return Packing::Letter(63);
+        }
+        return Packing::Other;
+    }
+    if unit < 0x30 {
+        if unit == 0x2E {
+            return Packing::Letter(62);
+        }
+        return Packing::Other;
+    }
+    if unit < 0x3A {
+        return Packing::Letter(unit - 0x30);
+    }
+    Packing::Other
 }
 
 // The letter of a number below 64.
@@ -29,15 +46,17 @@ pub(crate) fn from_b64(six: u16) -> u16
     requires { ⌜ six < 64 ⌝ }
     ensures { λ r. ⌜ r ≡ fromB64 six ⌝ }
 {
-    if six < 10 {
-        six + 0x30
-    } else if six < 36 {
-        six - 10 + 0x41
-    } else if six < 62 {
-        six - 36 + 0x61
-    } else if six == 62 {
-        0x2E
-    } else {
-        0x5F
+    if 35 < six {
+        if six < 62 {
+            return six - 36 + 0x61;
+        }
+        if six == 62 {
+            return 0x2E;
+        }
+        return 0x5F;
     }
+    if six < 10 {
+        return six + 0x30;
+    }
+    six - 10 + 0x41
 }

@@ -4,10 +4,11 @@ mod decoding;
 mod encoding;
 mod letters;
 
-use crate::decoding::decoded_len;
+use crate::decoding::decoded_bound;
 use crate::decoding::is_table_name;
 use crate::decoding::strip;
 use crate::decoding::write_decoded;
+use crate::encoding::encoded_bound;
 use crate::encoding::encoded_units;
 use crate::encoding::write_encoded;
 use common::Refusal;
@@ -47,17 +48,15 @@ pub fn encode(name: &[u16], is_table: bool, out: &mut [u16]) -> Encoded
     if MAX_NAME < name.len() {
         return Encoded::Refused(Refusal::OverSize);
     }
-    let units = encoded_units(name, is_table);
-    if out.len() < units {
+    if out.len() < encoded_bound(name, is_table, out.len()) {
         return Encoded::Refused(Refusal::OutputRoom);
     }
     if is_table {
         out[0] = TABLE_PREFIX;
-        write_encoded(name, &mut out[1..]);
-    } else {
-        write_encoded(name, out);
+        let units = write_encoded(name, &mut out[1..]);
+        return Encoded::Units(units + 1);
     }
-    Encoded::Units(units)
+    Encoded::Units(write_encoded(name, out))
 }
 
 // Decodes a stream name into the front of `out`, and answers how many units that are and whether it is a table's.
@@ -68,14 +67,14 @@ pub fn decode(stored: &[u16], out: &mut [u16]) -> Decoded
         return Decoded::Refused(Refusal::OverSize);
     }
     let packed = strip(stored);
-    let units = decoded_len(packed);
-    if MAX_NAME < units {
+    let most = decoded_bound(packed, out.len());
+    if MAX_NAME < most {
         return Decoded::Refused(Refusal::OverSize);
     }
-    if out.len() < units {
+    if out.len() < most {
         return Decoded::Refused(Refusal::OutputRoom);
     }
-    write_decoded(packed, out);
+    let units = write_decoded(packed, out);
     Decoded::Name {
         units,
         is_table: is_table_name(stored),

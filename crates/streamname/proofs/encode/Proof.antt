@@ -6,7 +6,7 @@ use lib.ListN.{length, length-set}
 use denote.Ref.{now}
 use Rattle.streamname.specs.Names.{encoded, encodedName}
 use Rattle.common.proofs.Parts.{length-rest, length-prefixed, prefixed}
-use Rattle.streamname.proofs.EncodeLaws.{encode-over, encode-short, encode-done}
+use Rattle.streamname.proofs.EncodeLaws.{encoded-short, encode-over, encode-short, encode-done}
 use Rattle.streamname.proofs.encode.Statement.{statement}
 use Rattle.streamname.proofs.encode.Tie as tie
 
@@ -18,7 +18,7 @@ Out s = now (s .args .out)
 
 -- past both refusals the whole result fits, and a table's prefix with it
 fits : (c : tie.Else2) → let s = c .before .before .before .before .before in length (encodedName (Name s) (s .args .is-table)) ≤ length (Out s)
-fits c = omega (arith, c .before .encoded-units .ensures)
+fits c = omega (arith, c .before .encoded-bound .ensures .above)
 
 table-fits : (c : tie.Then3) → let s = c .before .before .before .before .before .before in length (encoded (Name s)) < length (Out s)
 table-fits c = omega (arith, rw (c .if3 .taken) at (fits (c .before)))
@@ -26,11 +26,11 @@ table-fits c = omega (arith, rw (c .if3 .taken) at (fits (c .before)))
 returns : tie.Need-returns
 returns c = encode-over (Name (c .before .before .before)) (c .before .before .before .args .is-table) (Out (c .before .before .before)) (c .if1 .taken)
 
-encoded-units-requires : tie.Need-encoded-units-requires
-encoded-units-requires c κs = search needs
+encoded-bound-requires : tie.Need-encoded-bound-requires
+encoded-bound-requires c κs = search needs
 
 returns-2 : tie.Need-returns-2
-returns-2 c = encode-short (Name (c .before .before .before .before .before)) (c .before .before .before .before .before .args .is-table) (Out (c .before .before .before .before .before)) (c .before .before .if1 .left) (rw (c .before .encoded-units .ensures) at (c .if2 .taken))
+returns-2 c = encode-short (Name (c .before .before .before .before .before)) (c .before .before .before .before .before .args .is-table) (Out (c .before .before .before .before .before)) (c .before .before .if1 .left) (omega (arith, c .before .encoded-bound .ensures .past (c .if2 .taken)))
 
 slice-write-out : tie.Need-slice-write-out
 slice-write-out c = omega (arith, table-fits c)
@@ -53,11 +53,16 @@ write-encoded-requires-2 c κs = rw (c .before .if3 .left) at (fits (c .before .
 same-length : tie.Need-same-length
 same-length c = length-prefixed (Out (c .before .before .before .before .before .before .before .before .before .before)) 0x4840 (c .before .before .write-encoded .last .1 .0) (c .before .before .write-encoded .kept .1 .0)
 
+add-t13 : tie.Need-add-t13
+add-t13 c = omega (arith, c .before .before .write-encoded .ensures .ends, encoded-short (Name (c .before .before .before .before .before .before .before .before .before .before)))
+
 returns-3 : tie.Need-returns-3
 returns-3 c =
     let s = c .before .before .before .before .before .before .before .before .before .before in
-    encode-done (Name s) (s .args .is-table) (Out s) (c .before .before .before .before .before .before .before .if1 .left) _ _ (fits (c .before .before .before .before .before)) (c .before .before .before .before .before .before .encoded-units .ensures)
-    (rw (c .before .before .before .before .if3 .taken) (prefixed (Out s) 0x4840 (encoded (Name s)) _ (omega (arith, table-fits (c .before .before .before .before))) (c .before .before .write-encoded .ensures)))
+    let put = c .before .before .write-encoded .ensures in
+    let t = c .before .before .before .before .if3 .taken in
+    encode-done (Name s) (s .args .is-table) (Out s) (c .before .before .before .before .before .before .before .if1 .left) _ _ (fits (c .before .before .before .before .before)) (rw t (omega (arith, put .ends)))
+    (rw t (prefixed (Out s) 0x4840 (encoded (Name s)) _ (omega (arith, table-fits (c .before .before .before .before))) (put .stands)))
 
 same-length-2 : tie.Need-same-length-2
 same-length-2 c = search needs
@@ -65,23 +70,25 @@ same-length-2 c = search needs
 returns-4 : tie.Need-returns-4
 returns-4 c =
     let s = c .before .before .before .before .before .before .before .before .before .before in
-    encode-done (Name s) (s .args .is-table) (Out s) (c .before .before .before .before .before .before .before .if1 .left) _ _ (fits (c .before .before .before .before .before)) (c .before .before .before .before .before .before .encoded-units .ensures)
-    (rw (c .before .before .before .before .if3 .left) (c .before .before .write-encoded2 .ensures))
+    let put = c .before .before .write-encoded2 .ensures in
+    let t = c .before .before .before .before .if3 .left in
+    encode-done (Name s) (s .args .is-table) (Out s) (c .before .before .before .before .before .before .before .if1 .left) _ _ (fits (c .before .before .before .before .before)) (rw t (omega (arith, put .ends))) (rw t (put .stands))
 
 pub encode-spec : {M : Type 1} → statement M
 encode-spec =
     tie.close
     (tie.spec
     returns
-    encoded-units-requires
+    encoded-bound-requires
     returns-2
     slice-write-out
     sub-write-encoded
     part-write-encoded-start
     part-write-encoded-end
     write-encoded-requires
-    write-encoded-requires-2
+    add-t13
     same-length
     returns-3
+    write-encoded-requires-2
     same-length-2
     returns-4)

@@ -32,3 +32,8 @@ unitsOf (Two a b) = a ∷ b ∷ []
 pub record Put (units : List ℕ) (at : ℕ) (was : List ℕ) (end : ℕ) (out : List ℕ) : Type 0 where
   pub ends : end ≡ at + length units
   pub stands : out ≡ overAt at units was
+
+-- a bound of a length, which is the length itself where it is above a limit
+pub record Bound (exact limit bound : ℕ) : Type 0 where
+  pub above : exact ≤ bound
+  pub past : limit < bound → bound ≡ exact

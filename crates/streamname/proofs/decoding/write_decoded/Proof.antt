@@ -4,7 +4,7 @@ use mathlib.Core.Path.{_≡_}
 use mathlib.Core.List.{_++_}
 use denote.Ref.{now}
 use lib.ListN.{length, drop}
-use Rattle.common.proofs.Writing.{Writing, begin, kept, rooms, steps-front, done-front}
+use Rattle.common.proofs.Writing.{Writing, begin, kept, rooms, steps-front, count, done-front}
 use Rattle.streamname.specs.Names.{decoded}
 use Rattle.streamname.specs.inner.Packing.{unitsOf}
 use Rattle.streamname.proofs.DecodeLaws.{decoded-next, decoded-end}
@@ -57,7 +57,11 @@ same-length : tie.Need-same-length Inv-loop μ-loop
 same-length c = kept (c .before .loop .inv .1)
 
 returns : tie.Need-returns Inv-loop μ-loop
-returns c = done-front (c .before .loop .inv .1) (decoded-end _ _ (c .loop-test .left))
+returns c =
+    record {
+      ends = omega (arith, count (c .before .loop .inv .1) (decoded-end _ _ (c .loop-test .left)));
+      stands = done-front (c .before .loop .inv .1) (decoded-end _ _ (c .loop-test .left));
+    }
 
 pub write-decoded-spec : {M : Type 1} → statement M
 write-decoded-spec =

@@ -4,7 +4,7 @@ use mathlib.Core.Path.{_≡_}
 use lib.ListN.{length, drop}
 use Rattle.streamname.specs.Names.{encoded}
 use Rattle.streamname.proofs.EncodeLaws.{encoded-end}
-use Rattle.common.proofs.Writing.{Writing, begin, kept, room-front, step-front, done-front}
+use Rattle.common.proofs.Writing.{Writing, begin, kept, room-front, step-front, count, done-front}
 use Rattle.streamname.proofs.encoding.write_encoded.Statement.{statement}
 use Rattle.streamname.proofs.encoding.write_encoded.Tie as tie
 
@@ -42,7 +42,11 @@ same-length : tie.Need-same-length Inv-loop μ-loop
 same-length c = kept (c .before .loop .inv .1)
 
 returns : tie.Need-returns Inv-loop μ-loop
-returns c = done-front (c .before .loop .inv .1) (encoded-end _ _ (c .loop-test .left))
+returns c =
+    record {
+      ends = omega (arith, count (c .before .loop .inv .1) (encoded-end _ _ (c .loop-test .left)));
+      stands = done-front (c .before .loop .inv .1) (encoded-end _ _ (c .loop-test .left));
+    }
 
 pub write-encoded-spec : {M : Type 1} → statement M
 write-encoded-spec =

@@ -4,35 +4,41 @@ use Rattle.streamname.proofs.LetterLaws.{digit, upper, lower, other, do
 use Rattle.streamname.proofs.letters.to_b64.Statement.{statement}
 use Rattle.streamname.proofs.letters.to_b64.Tie as tie
 
-add-t6 : tie.Need-add-t6
-add-t6 c = search needs
+sub-t4 : tie.Need-sub-t4
+sub-t4 c = search needs
+
+add-t5 : tie.Need-add-t5
+add-t5 c = search needs
+
+returns : tie.Need-returns
+returns c = lower _ (omega arith) (omega arith)
+
+returns-2 : tie.Need-returns-2
+returns-2 c = other _ (omega arith) (omega arith) (omega arith) (omega arith) (omega arith)
+
+sub-t7 : tie.Need-sub-t7
+sub-t7 c = search needs
 
 add-t8 : tie.Need-add-t8
 add-t8 c = search needs
 
-returns : tie.Need-returns
-returns c = rw (c .match .keys1) dot
-
-returns-2 : tie.Need-returns-2
-returns-2 c = rw (c .match .keys2) underscore
-
 returns-3 : tie.Need-returns-3
-returns-3 c = digit _ (omega arith) (omega arith)
+returns-3 c = upper _ (omega arith) (omega arith)
 
 returns-4 : tie.Need-returns-4
-returns-4 c = upper _ (omega arith) (omega arith)
+returns-4 c = rw (c .if5 .taken) underscore
 
 returns-5 : tie.Need-returns-5
-returns-5 c = lower _ (omega arith) (omega arith)
+returns-5 c = other _ (omega arith) (omega arith) (omega arith) (omega arith) (omega arith)
 
 returns-6 : tie.Need-returns-6
-returns-6 c = other _ (omega arith) (omega arith) (omega arith) (omega arith) (omega arith)
+returns-6 c = rw (c .if7 .taken) dot
 
 returns-7 : tie.Need-returns-7
 returns-7 c = other _ (omega arith) (omega arith) (omega arith) (omega arith) (omega arith)
 
 returns-8 : tie.Need-returns-8
-returns-8 c = other _ (omega arith) (omega arith) (omega arith) (omega arith) (omega arith)
+returns-8 c = digit _ (omega arith) (omega arith)
 
 returns-9 : tie.Need-returns-9
 returns-9 c = other _ (omega arith) (omega arith) (omega arith) (omega arith) (omega arith)
@@ -41,10 +47,12 @@ pub to-b64-spec : {M : Type 1} → statement M
 to-b64-spec =
     tie.close
     (tie.spec
-    add-t6
-    add-t8
+    sub-t4
+    add-t5
     returns
     returns-2
+    sub-t7
+    add-t8
     returns-3
     returns-4
     returns-5

@@ -8,9 +8,69 @@ crate=${STRANDROOST_CRATE:-$home/../shared/docs/src/src/internal}
 registry=${STRANDROOST_REGISTRY:-/usr/share/cargo/registry}
 modules="category codepage column language macros streamname stringpool table value"
 
+mkdir -p "$made"
+
 say() { echo "desk: $*" >&2; }
 fail() { say "$*"; exit 2; }
 native() { [ "$(uname -m)" = x86_64 ]; }
+
+# things PART..: what each part needs, as THING=PACKAGE: a program or a file, and Debian's package that has it.
+#   rust       a Rust compiler and what links its programs
+#   c          a C compiler for the port's side
+#   crate      the three packages that the crate leans on
+#   container  the tool that takes a package's container apart
+#   samples    the tools that make the sample packages
+things() {
+    for part in "$@"; do
+        case $part in
+        rust) echo rustc=rustc-web cc=gcc /usr/include/stdio.h=libc6-dev ;;
+        c)
+            if native; then echo cc=gcc /usr/include/stdio.h=libc6-dev; else
+                echo x86_64-linux-gnu-gcc=gcc-x86-64-linux-gnu /usr/x86_64-linux-gnu/include/stdio.h=libc6-dev-amd64-cross
+            fi
+            ;;
+        crate) for name in byteorder-1 encoding_rs-0.8 uuid-1; do echo "$registry/$name.*=librust-$(echo "${name%-*}" | tr _ -)-dev"; done ;;
+        container) echo gsf=libgsf-bin ;;
+        samples) echo wixl=wixl msibuild=msitools ;;
+        *) fail "no part $part" ;;
+        esac
+    done
+}
+
+# there THING: a program on the path, or a file that the pattern names
+there() {
+    case $1 in
+    */*) set -- $1 && [ -e "$1" ] ;;
+    *) command -v "$1" > /dev/null ;;
+    esac
+}
+
+# absent PART..: the packages of things that are not there
+absent() {
+    for pair in $(things "$@"); do there "${pair%=*}" || echo "${pair##*=}"; done | sort -u | tr '\n' ' '
+}
+
+# have PART..: installs by name what the parts miss. Says what cannot be had, once, and is then false.
+asked=
+have() {
+    wanted=
+    for package in $(absent "$@"); do
+        case " $asked " in *" $package "*) ;; *) wanted="$wanted $package" ;; esac
+    done
+    if [ -n "$wanted" ]; then
+        asked="$asked$wanted"
+        say "installing$wanted"
+        apt-get -qq update > "$made/apt.log" 2>&1 || say "apt-get update failed: $(tail -n 1 "$made/apt.log")"
+        for package in $wanted; do
+            DEBIAN_FRONTEND=noninteractive apt-get -qq install -y --no-install-recommends "$package" >> "$made/apt.log" 2>&1 ||
+                say "CANNOT BE HAD: $package (apt-get install $package failed)"
+        done
+    fi
+    [ -z "$(absent "$@")" ]
+}
+
+# need PART..: have them, or end here
+need() { have "$@" || fail "needed of Debian: $(absent "$@")"; }
 
 # The toolchain's loader, C library and emulator, found from rt itself.
 toolchain() {

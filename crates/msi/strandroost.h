@@ -2,7 +2,7 @@
  *
  * A slice is a pointer and a count of elements. Every call is total: it returns for every input, reads and writes only what it
  * is lent, and on a refusal leaves all of it as it was. What each call answers is its contract in src/, by the definitions in
- * specs/. A pointer may be anything aligned where its count is 0. */
+ * crates/msi_forms/specs. A pointer may be anything aligned where its count is 0. */
 #ifndef STRANDROOST_H
 #define STRANDROOST_H
 
@@ -65,7 +65,14 @@ struct strandroost_cell_answer {
     int32_t number;
 };
 
-/* A column, or one being made: 0 Int16, 1 Int32, 2 Str, any other Binary. */
+struct strandroost_create_answer {
+    struct strandroost_refused refused;
+    struct strandroost_pool pool;
+    uint8_t kind;
+    int32_t number;
+};
+
+/* A column, or one being made: 0 Int16, 1 Int32, 2 Str, any other Binary. The range counts where has_range is set. */
 struct strandroost_column {
     uint32_t coltype;
     uint32_t max_len;
@@ -80,6 +87,27 @@ struct strandroost_column {
 struct strandroost_column_answer {
     struct strandroost_refused refused;
     struct strandroost_column column;
+};
+
+/* A layout, handed over whole: the first `count` columns are in use. Every call judges it, so it may be filled by hand. */
+struct strandroost_table {
+    struct strandroost_column columns[64];
+    size_t count;
+    bool long_string_refs;
+};
+
+struct strandroost_table_answer {
+    struct strandroost_refused refused;
+    struct strandroost_table table;
+};
+
+/* A step of the row reader: the place after it, and a cell where `found` is set; past the last cell there is none. */
+struct strandroost_step_answer {
+    struct strandroost_refused refused;
+    size_t at;
+    bool found;
+    uint8_t kind;
+    int32_t number;
 };
 
 /* Stream names, in UTF-16 units. */
@@ -99,6 +127,10 @@ struct strandroost_pool_answer strandroost_set_codepage(struct strandroost_pool 
 struct strandroost_count strandroost_refcount(struct strandroost_pool pool, const uint32_t *lengths, size_t lengths_len,
                                               const uint16_t *counts, size_t counts_len, const uint8_t *text, size_t text_len,
                                               int32_t number);
+/* The refusal of showing a number, or none. */
+struct strandroost_refused strandroost_get_refusal(struct strandroost_pool pool, const uint32_t *lengths, size_t lengths_len,
+                                                   const uint16_t *counts, size_t counts_len, const uint8_t *text,
+                                                   size_t text_len, int32_t number);
 /* The text is copied to `out`, since no exported call hands out a pointer. */
 struct strandroost_count strandroost_get(struct strandroost_pool pool, const uint32_t *lengths, size_t lengths_len,
                                          const uint16_t *counts, size_t counts_len, const uint8_t *text, size_t text_len,
@@ -116,22 +148,47 @@ struct strandroost_count strandroost_write_data(struct strandroost_pool pool, co
                                                 const uint16_t *counts, size_t counts_len, const uint8_t *text, size_t text_len,
                                                 uint8_t *out, size_t places);
 
-/* Columns. */
+/* Values and the pool. A value is a kind and a number; the text of one of kind 2 is `taken`, and `strandroost_to_text` copies it. */
+struct strandroost_create_answer strandroost_create(uint8_t kind, int32_t number, const uint8_t *taken, size_t taken_len,
+                                                    struct strandroost_pool pool, uint32_t *lengths, size_t lengths_len,
+                                                    uint16_t *counts, size_t counts_len, uint8_t *text, size_t text_len);
+struct strandroost_pool_answer strandroost_remove(uint8_t kind, int32_t number, struct strandroost_pool pool, uint32_t *lengths,
+                                                  size_t lengths_len, uint16_t *counts, size_t counts_len, uint8_t *text,
+                                                  size_t text_len);
+struct strandroost_cell_answer strandroost_to_value(uint8_t kind, int32_t number, struct strandroost_pool pool,
+                                                    const uint32_t *lengths, size_t lengths_len, const uint16_t *counts,
+                                                    size_t counts_len, const uint8_t *text, size_t text_len);
+struct strandroost_count strandroost_to_text(uint8_t kind, int32_t number, struct strandroost_pool pool, const uint32_t *lengths,
+                                             size_t lengths_len, const uint16_t *counts, size_t counts_len, const uint8_t *text,
+                                             size_t text_len, uint8_t *out, size_t places);
+
+/* Columns: one being made, its marks and range, and the column of a type. */
+struct strandroost_column strandroost_column_build(void);
+struct strandroost_column strandroost_column_localizable(struct strandroost_column builder);
+struct strandroost_column strandroost_column_nullable(struct strandroost_column builder);
+struct strandroost_column strandroost_column_primary_key(struct strandroost_column builder);
+struct strandroost_column strandroost_column_range(struct strandroost_column builder, int32_t min, int32_t max);
+struct strandroost_column strandroost_column_int16(struct strandroost_column builder);
+struct strandroost_column strandroost_column_int32(struct strandroost_column builder);
+struct strandroost_column strandroost_column_string(struct strandroost_column builder, uint32_t max_len);
+struct strandroost_column strandroost_column_binary(struct strandroost_column builder);
 struct strandroost_column_answer strandroost_column_from_bitfield(struct strandroost_column builder, int32_t bits);
 struct strandroost_reference strandroost_column_bitfield(struct strandroost_column column);
 struct strandroost_flag strandroost_is_valid_value(struct strandroost_column column, uint8_t kind, int32_t number,
                                                    const uint8_t *text, size_t text_len);
 
-/* Tables, by the bitfields of their columns. */
-struct strandroost_count strandroost_num_rows(const int32_t *bits, size_t columns, bool long_string_refs, const uint8_t *stream,
-                                              size_t stream_len);
-struct strandroost_cell_answer strandroost_read_cell(const int32_t *bits, size_t columns, bool long_string_refs,
-                                                     const uint8_t *stream, size_t stream_len, size_t row, size_t column);
-struct strandroost_count strandroost_read_rows(const int32_t *bits, size_t columns, bool long_string_refs, const uint8_t *stream,
-                                               size_t stream_len, uint8_t *kinds, size_t kinds_len, int32_t *numbers,
-                                               size_t numbers_len);
-struct strandroost_count strandroost_write_rows(const int32_t *bits, size_t columns, bool long_string_refs, size_t rows,
-                                                const uint8_t *kinds, size_t kinds_len, const int32_t *numbers,
-                                                size_t numbers_len, uint8_t *out, size_t places);
+/* Tables. */
+struct strandroost_table_answer strandroost_table_new(struct strandroost_table table);
+struct strandroost_table_answer strandroost_table_from_bitfields(const int32_t *bits, size_t columns, bool long_string_refs);
+struct strandroost_count strandroost_num_rows(struct strandroost_table table, const uint8_t *stream, size_t stream_len);
+struct strandroost_cell_answer strandroost_read_cell(struct strandroost_table table, const uint8_t *stream, size_t stream_len,
+                                                     size_t row, size_t column);
+struct strandroost_count strandroost_read_rows(struct strandroost_table table, const uint8_t *stream, size_t stream_len,
+                                               uint8_t *kinds, size_t kinds_len, int32_t *numbers, size_t numbers_len);
+struct strandroost_count strandroost_write_rows(struct strandroost_table table, size_t rows, const uint8_t *kinds,
+                                                size_t kinds_len, const int32_t *numbers, size_t numbers_len, uint8_t *out,
+                                                size_t places);
+struct strandroost_step_answer strandroost_rows_next(struct strandroost_table table, const uint8_t *stream, size_t stream_len,
+                                                     size_t at);
 
 #endif

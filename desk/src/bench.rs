@@ -30,7 +30,7 @@ use std::hint::black_box;
 use std::io::Cursor;
 use std::rc::Rc;
 use std::time::Instant;
-use strandroost::calls::{self, Rooms, RoomsMut, State};
+use strandroost::calls::{self, Layout, Rooms, RoomsMut, State};
 
 const ROUNDS: usize = 5;
 const BITS: [i32; 6] = [0x2d48, 0x502, 0x104, 0xd00, 0x1d00, 0x1502];
@@ -245,10 +245,11 @@ fn bench_table(rows: usize) {
     let stream: Vec<u8> = (0..rows * ROW_BYTES).map(|at| (at * 31 % 251) as u8).collect();
     let columns = BITS.iter().map(|bits| Column::build("x").with_bitfield(*bits).expect("good bits")).collect();
     let table: Rc<Table> = Table::new("T".into(), columns, false);
+    let layout = Layout::from_bitfields(&BITS, false).expect("good bits");
     let (mut kinds, mut numbers) = (vec![0u8; rows * BITS.len()], vec![0i32; rows * BITS.len()]);
     let times = 60_000 / rows + 1;
     let krate = timed(times, || (), |()| drop(black_box(table.read_rows(Cursor::new(&stream)).expect("good rows"))));
-    let port = timed(times, || (), |()| drop(black_box(calls::read_rows(&BITS, false, &stream, &mut kinds, &mut numbers))));
+    let port = timed(times, || (), |()| drop(black_box(calls::read_rows(&layout, &stream, &mut kinds, &mut numbers))));
     show("read_rows", rows, krate, port);
     let cells: Vec<Vec<ValueRef>> = table.read_rows(Cursor::new(&stream)).expect("good rows");
     let mut out = vec![0u8; stream.len()];
@@ -258,7 +259,7 @@ fn bench_table(rows: usize) {
         |(mut out, cells)| table.write_rows(&mut out, cells).expect("a vector takes all"),
     );
     let port =
-        timed(times, || (), |()| drop(black_box(calls::write_rows(&BITS, false, rows, &kinds, &numbers, &mut out))));
+        timed(times, || (), |()| drop(black_box(calls::write_rows(&layout, rows, &kinds, &numbers, &mut out))));
     show("write_rows", rows, krate, port);
     assert!(out == stream, "the port wrote another stream");
 }

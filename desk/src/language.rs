@@ -240,8 +240,11 @@ fn list_of<T>(word: &str, one: fn(&str) -> Option<T>) -> Option<Vec<T>> {
     word.split(',').map(one).collect()
 }
 
+/// A layout, by bits or by types: the two ways of making one.
 fn layout_of(long: &str, columns: &str) -> Option<Layout> {
-    Some(Layout { long: flag_of(long)?, columns: list_of(columns, layout_column)? })
+    let columns = list_of(columns, layout_column)?;
+    let bits = columns.iter().filter(|made| matches!(made, Made::Bits(_))).count();
+    (bits == 0 || bits == columns.len()).then_some(Layout { long: flag_of(long)?, columns })
 }
 
 fn number_of(word: &str) -> Option<i32> {

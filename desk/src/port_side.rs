@@ -1,7 +1,7 @@
 //! The port's calls, asked in the words of language.rs. Rooms and outputs are lent as the commands say: by default as much as
 //! suffices.
-use crate::language::{Answer, Cell, Command, Held, Layout, Made, Place, Spec, Type, Value};
-use strandroost::calls::{self, ColumnParts, KindAndNumber, Rooms, RoomsMut, State};
+use crate::language::{self, Answer, Cell, Command, Held, Made, Place, Spec, Type, Value};
+use strandroost::calls::{self, ColumnParts, KindAndNumber, Layout, Rooms, RoomsMut, State};
 use strandroost::Refusal;
 
 /// What lent memory holds before a call writes it.
@@ -102,34 +102,38 @@ fn column_answer(spec: &Spec) -> Answer {
 }
 
 fn check_answer(spec: &Spec, value: &Value) -> Answer {
+    let (handed, text) = value_in(value);
+    match column(spec).and_then(|made| calls::is_valid_value(made, handed, text)) {
+        Ok(valid) => Answer::Flag(valid),
+        Err(refusal) => alone(refusal),
+    }
+}
+
+/// A layout by bits is made first; one by types is handed over as it is, and the call on the table judges it.
+fn layout_in(layout: &language::Layout) -> Asked<Layout> {
+    let plain = Spec { made: Made::Bits(0), nullable: false, localizable: false, primary_key: false, range: None };
+    let (mut bits, mut types) = (Vec::new(), Vec::new());
+    for made in &layout.columns {
+        match *made {
+            Made::Bits(one) => bits.push(one),
+            Made::Type(coltype) => types.push(parts(&plain, coltype)),
+        }
+    }
+    match types.is_empty() {
+        true => Layout::from_bitfields(&bits, layout.long),
+        false => Ok(Layout::by_hand(&types, layout.long)),
+    }
+}
+
+/// A value's kind and number, and the text beside it.
+fn value_in(value: &Value) -> (KindAndNumber, &[u8]) {
     let (kind, number, text): (u8, i32, &[u8]) = match value {
         Value::Null => (0, 0, &[]),
         Value::Int(number) => (1, *number, &[]),
         Value::Text(text) => (2, 0, text),
         Value::Binary => (3, 0, &[]),
     };
-    match column(spec).and_then(|made| calls::is_valid_value(made, KindAndNumber { kind, number }, text)) {
-        Ok(valid) => Answer::Flag(valid),
-        Err(refusal) => alone(refusal),
-    }
-}
-
-/// The bits that the calls on tables are handed, or the refusal of a Str maximum that bits cannot say.
-fn bits_of(layout: &Layout) -> Result<Vec<i32>, Answer> {
-    let mut bits = Vec::new();
-    for (place, made) in layout.columns.iter().enumerate() {
-        bits.push(match *made {
-            Made::Bits(bits) => bits,
-            // Over 64 columns are refused first, whatever they are.
-            Made::Type(_) if layout.columns.len() > 64 => 0x502,
-            Made::Type(coltype) => {
-                let spec = Spec { made: *made, nullable: false, localizable: false, primary_key: false, range: None };
-                let told = |refusal: Refusal| Answer::Refused(refusal.number(), Place::Column(place));
-                calls::column_bitfield(parts(&spec, coltype)).map_err(told)?
-            }
-        });
-    }
-    Ok(bits)
+    (KindAndNumber { kind, number }, text)
 }
 
 impl PortSide {
@@ -183,30 +187,21 @@ impl PortSide {
             Command::WritePool => Answer::Bytes(self.pool_stream()?),
             Command::WriteData => Answer::Bytes(self.data_stream()?),
             Command::Sum => Answer::Sums(self.pool_stream()?, self.data_stream()?),
-            Command::Create(Value::Text(text)) => Answer::Cell(Cell::Str(self.take(&text)?)),
-            Command::Create(Value::Null) => Answer::Cell(Cell::Null),
-            Command::Create(Value::Int(number)) => Answer::Cell(Cell::Int(number)),
-            Command::Create(Value::Binary) => Answer::Cell(Cell::Binary),
-            Command::Remove(Cell::Str(number)) => {
-                self.state = calls::decref(self.state, self.rooms_mut(), number)?;
+            Command::Create(value) => Answer::Cell(self.create(&value)?),
+            Command::Remove(cell) => {
+                self.state = calls::remove(cell_in(cell), self.state, self.rooms_mut())?;
                 Answer::Done
             }
-            Command::Remove(_) => Answer::Done,
-            Command::Value(cell) => Answer::Value(self.value(cell)?),
+            Command::Value(cell) => Answer::Value(self.value(cell_in(cell))?),
             Command::Col(spec) => column_answer(&spec),
             Command::Check(spec, value) => check_answer(&spec, &value),
-            Command::Read(layout, stream) => self.on_bits(&layout, |side, bits| {
-                let (rows, cells) = side.read(bits, layout.long, &stream)?;
-                Ok(Answer::Cells(rows, cells))
-            })?,
-            Command::Rows(layout, stream) => self.on_bits(&layout, |side, bits| side.values(bits, layout.long, &stream))?,
-            Command::Place(layout, stream, row, column) => self.on_bits(&layout, |_, bits| {
-                let cell = calls::read_cell(bits, layout.long, &stream, row, column)?;
-                Ok(Answer::Cell(cell_out(cell.kind, cell.number)))
-            })?,
-            Command::Write(layout, rows, cells) => {
-                self.on_bits(&layout, |side, bits| side.write(bits, layout.long, rows, &cells))?
+            Command::Read(layout, stream) => self.read(&layout_in(&layout)?, &stream)?,
+            Command::Rows(layout, stream) => self.values(&layout_in(&layout)?, &stream)?,
+            Command::Place(layout, stream, row, column) => {
+                let cell = calls::read_cell(&layout_in(&layout)?, &stream, row, column)?;
+                Answer::Cell(cell_out(cell.kind, cell.number))
             }
+            Command::Write(layout, rows, cells) => self.write(&layout_in(&layout)?, rows, &cells)?,
             Command::Lend(sizes) => self.lend(sizes),
             Command::Out(places) => {
                 self.places = places;
@@ -292,20 +287,30 @@ impl PortSide {
         Ok(Answer::Pool(self.state.codepage, self.state.long_string_refs, self.state.num_strings))
     }
 
-    /// Rooms that were too small grow twofold, so that a long trace does not grow them at every step.
-    fn take(&mut self, text: &[u8]) -> Asked<i32> {
+    /// A call that takes a text. Rooms that were too small grow twofold, so that a long trace does not grow them at every step.
+    fn taking<T>(&mut self, text: &[u8], call: impl Fn(State, RoomsMut<'_>) -> Asked<(T, State)>) -> Asked<T> {
         loop {
             let state = self.state;
-            match calls::incref(state, self.rooms_mut(), text) {
-                Ok((number, after)) => {
+            match call(state, self.rooms_mut()) {
+                Ok((answer, after)) => {
                     self.state = after;
-                    return Ok(number);
+                    return Ok(answer);
                 }
                 Err(refusal) if self.lent || !matches!(refusal.number(), 4 | 6) => return Err(refusal),
                 Err(refusal) if refusal.number() == 6 && self.text.len() == MAX_BYTES => return Err(refusal),
                 Err(_) => self.grow(2 * self.lengths.len() + 16, 2 * self.text.len() + text.len() + 64),
             }
         }
+    }
+
+    fn take(&mut self, text: &[u8]) -> Asked<i32> {
+        self.taking(text, |state, rooms| calls::incref(state, rooms, text))
+    }
+
+    fn create(&mut self, value: &Value) -> Asked<Cell> {
+        let (handed, text) = value_in(value);
+        let made = self.taking(text, |state, rooms| calls::create(handed, text, state, rooms))?;
+        Ok(cell_out(made.kind, made.number))
     }
 
     fn show(&mut self, number: i32) -> Asked<Vec<u8>> {
@@ -334,45 +339,51 @@ impl PortSide {
         Ok(self.out[..answer?].to_vec())
     }
 
-    fn value(&mut self, cell: Cell) -> Asked<Value> {
-        Ok(match cell {
-            Cell::Int(number) => Value::Int(number),
-            Cell::Str(number) => Value::Text(self.show(number)?),
-            Cell::Binary => Value::Binary,
-            Cell::Null | Cell::Handed(..) => Value::Null,
+    fn value(&mut self, cell: KindAndNumber) -> Asked<Value> {
+        let shown = calls::to_value(cell, self.state, self.rooms())?;
+        Ok(match shown.kind {
+            0 => Value::Null,
+            1 => Value::Int(shown.number),
+            2 => {
+                let mut out = vec![FILL; self.places.unwrap_or(self.text_length(cell.number))];
+                let answer = calls::to_text(cell, self.state, self.rooms(), &mut out);
+                self.out = out;
+                Value::Text(self.out[..answer?].to_vec())
+            }
+            _ => Value::Binary,
         })
     }
 
     // ------------------------------------------------------------ table
 
-    fn on_bits(&mut self, layout: &Layout, call: impl FnOnce(&mut PortSide, &[i32]) -> Asked<Answer>) -> Asked<Answer> {
-        match bits_of(layout) {
-            Ok(bits) => call(self, &bits),
-            Err(answer) => Ok(answer),
+    fn read(&mut self, layout: &Layout, stream: &[u8]) -> Asked<Answer> {
+        let rows = calls::num_rows(layout, stream).unwrap_or(0);
+        let places = self.places.unwrap_or(rows * layout.count());
+        let (mut kinds, mut numbers) = (vec![FILL; places], vec![i32::from_le_bytes([FILL; 4]); places]);
+        let answer = calls::read_rows(layout, stream, &mut kinds, &mut numbers);
+        self.out = kinds.iter().copied().chain(numbers.iter().flat_map(|number| number.to_le_bytes())).collect();
+        let cells = kinds.iter().zip(&numbers).take(answer?).map(|(kind, number)| cell_out(*kind, *number));
+        Ok(Answer::Cells(rows, cells.collect()))
+    }
+
+    /// By the row reader, which is asked once more after the end.
+    fn values(&mut self, layout: &Layout, stream: &[u8]) -> Asked<Answer> {
+        let (rows, mut values, mut at) = (calls::num_rows(layout, stream)?, Vec::new(), 0);
+        loop {
+            let step = calls::rows_next(layout, stream, at)?;
+            match step.cell {
+                Some(cell) => values.push(self.value(cell)?),
+                None if calls::rows_next(layout, stream, step.at)? == step => return Ok(Answer::Values(rows, values)),
+                None => return Ok(Answer::Bad),
+            }
+            at = step.at;
         }
     }
 
-    fn read(&mut self, bits: &[i32], long: bool, stream: &[u8]) -> Asked<(usize, Vec<Cell>)> {
-        let rows = calls::num_rows(bits, long, stream).unwrap_or(0);
-        let places = self.places.unwrap_or(rows * bits.len());
-        let (mut kinds, mut numbers) = (vec![FILL; places], vec![i32::from_le_bytes([FILL; 4]); places]);
-        let answer = calls::read_rows(bits, long, stream, &mut kinds, &mut numbers);
-        self.out = kinds.iter().copied().chain(numbers.iter().flat_map(|number| number.to_le_bytes())).collect();
-        let cells = answer?;
-        Ok((rows, kinds.iter().zip(&numbers).take(cells).map(|(kind, number)| cell_out(*kind, *number)).collect()))
-    }
-
-    fn values(&mut self, bits: &[i32], long: bool, stream: &[u8]) -> Asked<Answer> {
-        let (rows, cells) = self.read(bits, long, stream)?;
-        let values = cells.into_iter().map(|cell| self.value(cell)).collect::<Asked<Vec<Value>>>()?;
-        Ok(Answer::Values(rows, values))
-    }
-
-    fn write(&mut self, bits: &[i32], long: bool, rows: usize, cells: &[Cell]) -> Asked<Answer> {
+    fn write(&mut self, layout: &Layout, rows: usize, cells: &[Cell]) -> Asked<Answer> {
         let (kinds, numbers): (Vec<u8>, Vec<i32>) =
             cells.iter().map(|cell| cell_in(*cell)).map(|cell| (cell.kind, cell.number)).unzip();
-        let bytes =
-            self.with_bytes(4 * cells.len(), |out| calls::write_rows(bits, long, rows, &kinds, &numbers, out))?;
+        let bytes = self.with_bytes(4 * cells.len(), |out| calls::write_rows(layout, rows, &kinds, &numbers, out))?;
         Ok(Answer::Bytes(self.out[..bytes].to_vec()))
     }
 }

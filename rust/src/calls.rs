@@ -67,7 +67,15 @@ mod c {
     }
 
     #[repr(C)]
-    #[derive(Clone, Copy)]
+    pub struct CreateAnswer {
+        pub refused: Refused,
+        pub pool: Pool,
+        pub kind: u8,
+        pub number: i32,
+    }
+
+    #[repr(C)]
+    #[derive(Clone, Copy, Debug, PartialEq, Eq)]
     pub struct ColumnParts {
         pub coltype: u32,
         pub max_len: u32,
@@ -83,6 +91,29 @@ mod c {
     pub struct ColumnAnswer {
         pub refused: Refused,
         pub column: ColumnParts,
+    }
+
+    #[repr(C)]
+    #[derive(Clone, Copy, Debug, PartialEq, Eq)]
+    pub struct Table {
+        pub columns: [ColumnParts; 64],
+        pub count: usize,
+        pub long_string_refs: bool,
+    }
+
+    #[repr(C)]
+    pub struct TableAnswer {
+        pub refused: Refused,
+        pub table: Table,
+    }
+
+    #[repr(C)]
+    pub struct StepAnswer {
+        pub refused: Refused,
+        pub at: usize,
+        pub found: bool,
+        pub kind: u8,
+        pub number: i32,
     }
 
     #[link(name = "msi", kind = "static")]
@@ -104,6 +135,10 @@ mod c {
             pool: Pool, lengths: *const u32, lengths_len: usize, counts: *const u16, counts_len: usize, text: *const u8,
             text_len: usize, number: i32,
         ) -> Count;
+        pub fn strandroost_get_refusal(
+            pool: Pool, lengths: *const u32, lengths_len: usize, counts: *const u16, counts_len: usize, text: *const u8,
+            text_len: usize, number: i32,
+        ) -> Refused;
         pub fn strandroost_get(
             pool: Pool, lengths: *const u32, lengths_len: usize, counts: *const u16, counts_len: usize, text: *const u8,
             text_len: usize, number: i32, out: *mut u8, places: usize,
@@ -124,26 +159,51 @@ mod c {
             pool: Pool, lengths: *const u32, lengths_len: usize, counts: *const u16, counts_len: usize, text: *const u8,
             text_len: usize, out: *mut u8, places: usize,
         ) -> Count;
+        pub fn strandroost_create(
+            kind: u8, number: i32, new: *const u8, new_len: usize, pool: Pool, lengths: *mut u32, lengths_len: usize,
+            counts: *mut u16, counts_len: usize, text: *mut u8, text_len: usize,
+        ) -> CreateAnswer;
+        pub fn strandroost_remove(
+            kind: u8, number: i32, pool: Pool, lengths: *mut u32, lengths_len: usize, counts: *mut u16, counts_len: usize,
+            text: *mut u8, text_len: usize,
+        ) -> PoolAnswer;
+        pub fn strandroost_to_value(
+            kind: u8, number: i32, pool: Pool, lengths: *const u32, lengths_len: usize, counts: *const u16,
+            counts_len: usize, text: *const u8, text_len: usize,
+        ) -> CellAnswer;
+        pub fn strandroost_to_text(
+            kind: u8, number: i32, pool: Pool, lengths: *const u32, lengths_len: usize, counts: *const u16,
+            counts_len: usize, text: *const u8, text_len: usize, out: *mut u8, places: usize,
+        ) -> Count;
+        pub fn strandroost_column_build() -> ColumnParts;
+        pub fn strandroost_column_localizable(builder: ColumnParts) -> ColumnParts;
+        pub fn strandroost_column_nullable(builder: ColumnParts) -> ColumnParts;
+        pub fn strandroost_column_primary_key(builder: ColumnParts) -> ColumnParts;
+        pub fn strandroost_column_range(builder: ColumnParts, min: i32, max: i32) -> ColumnParts;
+        pub fn strandroost_column_int16(builder: ColumnParts) -> ColumnParts;
+        pub fn strandroost_column_int32(builder: ColumnParts) -> ColumnParts;
+        pub fn strandroost_column_string(builder: ColumnParts, max_len: u32) -> ColumnParts;
+        pub fn strandroost_column_binary(builder: ColumnParts) -> ColumnParts;
         pub fn strandroost_column_from_bitfield(builder: ColumnParts, bits: i32) -> ColumnAnswer;
         pub fn strandroost_column_bitfield(column: ColumnParts) -> Reference;
         pub fn strandroost_is_valid_value(
             column: ColumnParts, kind: u8, number: i32, text: *const u8, text_len: usize,
         ) -> Flag;
-        pub fn strandroost_num_rows(
-            bits: *const i32, columns: usize, long_string_refs: bool, stream: *const u8, stream_len: usize,
-        ) -> Count;
+        pub fn strandroost_table_new(table: Table) -> TableAnswer;
+        pub fn strandroost_table_from_bitfields(bits: *const i32, columns: usize, long_string_refs: bool) -> TableAnswer;
+        pub fn strandroost_num_rows(table: Table, stream: *const u8, stream_len: usize) -> Count;
         pub fn strandroost_read_cell(
-            bits: *const i32, columns: usize, long_string_refs: bool, stream: *const u8, stream_len: usize, row: usize,
-            column: usize,
+            table: Table, stream: *const u8, stream_len: usize, row: usize, column: usize,
         ) -> CellAnswer;
         pub fn strandroost_read_rows(
-            bits: *const i32, columns: usize, long_string_refs: bool, stream: *const u8, stream_len: usize, kinds: *mut u8,
-            kinds_len: usize, numbers: *mut i32, numbers_len: usize,
+            table: Table, stream: *const u8, stream_len: usize, kinds: *mut u8, kinds_len: usize, numbers: *mut i32,
+            numbers_len: usize,
         ) -> Count;
         pub fn strandroost_write_rows(
-            bits: *const i32, columns: usize, long_string_refs: bool, rows: usize, kinds: *const u8, kinds_len: usize,
-            numbers: *const i32, numbers_len: usize, out: *mut u8, places: usize,
+            table: Table, rows: usize, kinds: *const u8, kinds_len: usize, numbers: *const i32, numbers_len: usize,
+            out: *mut u8, places: usize,
         ) -> Count;
+        pub fn strandroost_rows_next(table: Table, stream: *const u8, stream_len: usize, at: usize) -> StepAnswer;
     }
 }
 
@@ -204,6 +264,19 @@ pub struct ColumnParts {
     pub is_primary_key: bool,
     /// The least and the largest integer allowed.
     pub range: Option<(i32, i32)>,
+}
+
+/// A layout of columns, handed over whole to each call on a table, which judges it.
+#[derive(Clone, Debug, PartialEq, Eq)]
+pub struct Layout(c::Table);
+
+/// A step of the row reader.
+#[derive(Clone, Copy, Debug, PartialEq, Eq)]
+pub struct Step {
+    /// The cell, or none past the last.
+    pub cell: Option<KindAndNumber>,
+    /// The place after it.
+    pub at: usize,
 }
 
 fn given<T>(refused: c::Refused, value: T) -> Result<T> {
@@ -324,6 +397,17 @@ pub fn refcount(state: State, rooms: Rooms<'_>, number: i32) -> Result<usize> {
     })
 }
 
+/// Whether a reference can be shown. Refused with 22, 24, 8.
+pub fn get_refusal(state: State, rooms: Rooms<'_>, number: i32) -> Result<()> {
+    let refused = unsafe {
+        c::strandroost_get_refusal(
+            state.to_c(), rooms.lengths.as_ptr(), rooms.lengths.len(), rooms.counts.as_ptr(), rooms.counts.len(),
+            rooms.text.as_ptr(), rooms.text.len(), number,
+        )
+    };
+    given(refused, ())
+}
+
 /// Copies the text of a reference to the front of `out`: how many bytes that are. Refused with 22, 24, 8, 7.
 pub fn get(state: State, rooms: Rooms<'_>, number: i32, out: &mut [u8]) -> Result<usize> {
     counted(unsafe {
@@ -375,6 +459,97 @@ pub fn write_data(state: State, rooms: Rooms<'_>, out: &mut [u8]) -> Result<usiz
     })
 }
 
+/// Creates a value: a text (kind 2) is taken into the pool, any other leaves it. Refused as `incref`; a value that is no text
+/// with 22, 24.
+pub fn create(value: KindAndNumber, new: &[u8], state: State, rooms: RoomsMut<'_>) -> Result<(KindAndNumber, State)> {
+    let answer = unsafe {
+        c::strandroost_create(
+            value.kind, value.number, new.as_ptr(), new.len(), state.to_c(), rooms.lengths.as_mut_ptr(),
+            rooms.lengths.len(), rooms.counts.as_mut_ptr(), rooms.counts.len(), rooms.text.as_mut_ptr(), rooms.text.len(),
+        )
+    };
+    let made = KindAndNumber { kind: answer.kind, number: answer.number };
+    given(answer.refused, (made, State::from_c(answer.pool)))
+}
+
+/// Removes a cell's value: a reference is dropped, any other leaves the pool. Refused as `decref`; a cell that is no reference
+/// with 22, 24.
+pub fn remove(cell: KindAndNumber, state: State, rooms: RoomsMut<'_>) -> Result<State> {
+    pooled(unsafe {
+        c::strandroost_remove(
+            cell.kind, cell.number, state.to_c(), rooms.lengths.as_mut_ptr(), rooms.lengths.len(),
+            rooms.counts.as_mut_ptr(), rooms.counts.len(), rooms.text.as_mut_ptr(), rooms.text.len(),
+        )
+    })
+}
+
+/// The value that a cell stands for; the number of a text is 0, and [`to_text`] copies it. Refused with 22, 24, 8.
+pub fn to_value(cell: KindAndNumber, state: State, rooms: Rooms<'_>) -> Result<KindAndNumber> {
+    let answer = unsafe {
+        c::strandroost_to_value(
+            cell.kind, cell.number, state.to_c(), rooms.lengths.as_ptr(), rooms.lengths.len(), rooms.counts.as_ptr(),
+            rooms.counts.len(), rooms.text.as_ptr(), rooms.text.len(),
+        )
+    };
+    given(answer.refused, KindAndNumber { kind: answer.kind, number: answer.number })
+}
+
+/// Copies the text of a cell to the front of `out`, none of a cell that is no reference: how many bytes that are. Refused with
+/// 22, 24, 8, 7.
+pub fn to_text(cell: KindAndNumber, state: State, rooms: Rooms<'_>, out: &mut [u8]) -> Result<usize> {
+    counted(unsafe {
+        c::strandroost_to_text(
+            cell.kind, cell.number, state.to_c(), rooms.lengths.as_ptr(), rooms.lengths.len(), rooms.counts.as_ptr(),
+            rooms.counts.len(), rooms.text.as_ptr(), rooms.text.len(), out.as_mut_ptr(), out.len(),
+        )
+    })
+}
+
+/// A column being made, without marks or range; its type does not count yet.
+pub fn column_build() -> ColumnParts {
+    ColumnParts::from_c(unsafe { c::strandroost_column_build() })
+}
+
+/// Sets the localizable mark.
+pub fn column_localizable(builder: ColumnParts) -> ColumnParts {
+    ColumnParts::from_c(unsafe { c::strandroost_column_localizable(builder.to_c()) })
+}
+
+/// Sets the nullable mark.
+pub fn column_nullable(builder: ColumnParts) -> ColumnParts {
+    ColumnParts::from_c(unsafe { c::strandroost_column_nullable(builder.to_c()) })
+}
+
+/// Sets the primary key mark.
+pub fn column_primary_key(builder: ColumnParts) -> ColumnParts {
+    ColumnParts::from_c(unsafe { c::strandroost_column_primary_key(builder.to_c()) })
+}
+
+/// Sets the least and the largest integer allowed.
+pub fn column_range(builder: ColumnParts, min: i32, max: i32) -> ColumnParts {
+    ColumnParts::from_c(unsafe { c::strandroost_column_range(builder.to_c(), min, max) })
+}
+
+/// The column of integers of 16 bits.
+pub fn column_int16(builder: ColumnParts) -> ColumnParts {
+    ColumnParts::from_c(unsafe { c::strandroost_column_int16(builder.to_c()) })
+}
+
+/// The column of integers of 32 bits.
+pub fn column_int32(builder: ColumnParts) -> ColumnParts {
+    ColumnParts::from_c(unsafe { c::strandroost_column_int32(builder.to_c()) })
+}
+
+/// The column of texts of at most so many bytes, 0 for any.
+pub fn column_string(builder: ColumnParts, max_len: u32) -> ColumnParts {
+    ColumnParts::from_c(unsafe { c::strandroost_column_string(builder.to_c(), max_len) })
+}
+
+/// The column of streams.
+pub fn column_binary(builder: ColumnParts) -> ColumnParts {
+    ColumnParts::from_c(unsafe { c::strandroost_column_binary(builder.to_c()) })
+}
+
 /// The column that bits name; a nullable mark and a range made before survive. Refused with 13.
 pub fn column_from_bitfield(builder: ColumnParts, bits: i32) -> Result<ColumnParts> {
     let answer = unsafe { c::strandroost_column_from_bitfield(builder.to_c(), bits) };
@@ -394,52 +569,77 @@ pub fn is_valid_value(column: ColumnParts, cell: KindAndNumber, text: &[u8]) -> 
     given(answer.refused, answer.value)
 }
 
-/// The complete rows of a table stream. Refused with 22, 20, 13, 14.
-pub fn num_rows(bits: &[i32], long_string_refs: bool, stream: &[u8]) -> Result<usize> {
-    counted(unsafe {
-        c::strandroost_num_rows(bits.as_ptr(), bits.len(), long_string_refs, stream.as_ptr(), stream.len())
-    })
+impl Layout {
+    /// The columns as they are, not judged: each call on the layout does. Of more than 64 only the number counts.
+    pub fn by_hand(columns: &[ColumnParts], long_string_refs: bool) -> Layout {
+        let mut places = [column_build().to_c(); 64];
+        for (place, column) in places.iter_mut().zip(columns) {
+            *place = column.to_c();
+        }
+        Layout(c::Table { columns: places, count: columns.len(), long_string_refs })
+    }
+
+    /// The layout of columns. Refused with 20, 19.
+    pub fn new(columns: &[ColumnParts], long_string_refs: bool) -> Result<Layout> {
+        let answer = unsafe { c::strandroost_table_new(Layout::by_hand(columns, long_string_refs).0) };
+        given(answer.refused, Layout(answer.table))
+    }
+
+    /// The layout of the columns that bits name. Refused with 20, 13.
+    pub fn from_bitfields(bits: &[i32], long_string_refs: bool) -> Result<Layout> {
+        let answer = unsafe { c::strandroost_table_from_bitfields(bits.as_ptr(), bits.len(), long_string_refs) };
+        given(answer.refused, Layout(answer.table))
+    }
+
+    /// The columns in use, at most 64.
+    pub fn columns(&self) -> Vec<ColumnParts> {
+        self.0.columns.iter().take(self.0.count).map(|column| ColumnParts::from_c(*column)).collect()
+    }
+
+    /// How many columns are in use.
+    pub fn count(&self) -> usize {
+        self.0.count
+    }
+
+    /// Whether references take three bytes.
+    pub fn long_string_refs(&self) -> bool {
+        self.0.long_string_refs
+    }
 }
 
-/// The cell at a place. Refused with 22, 20, 13, 14, 15.
-pub fn read_cell(bits: &[i32], long_string_refs: bool, stream: &[u8], row: usize, column: usize) -> Result<KindAndNumber> {
-    let answer = unsafe {
-        c::strandroost_read_cell(
-            bits.as_ptr(), bits.len(), long_string_refs, stream.as_ptr(), stream.len(), row, column,
-        )
-    };
+/// The complete rows of a table stream. Refused with 22, 20, 19, 14.
+pub fn num_rows(layout: &Layout, stream: &[u8]) -> Result<usize> {
+    counted(unsafe { c::strandroost_num_rows(layout.0, stream.as_ptr(), stream.len()) })
+}
+
+/// The cell at a place. Refused with 22, 20, 19, 14, 15.
+pub fn read_cell(layout: &Layout, stream: &[u8], row: usize, column: usize) -> Result<KindAndNumber> {
+    let answer = unsafe { c::strandroost_read_cell(layout.0, stream.as_ptr(), stream.len(), row, column) };
     given(answer.refused, KindAndNumber { kind: answer.kind, number: answer.number })
 }
 
-/// The cells of a table stream, row by row: how many there are. Refused with 22, 20, 13, 14, 7.
-pub fn read_rows(
-    bits: &[i32],
-    long_string_refs: bool,
-    stream: &[u8],
-    kinds: &mut [u8],
-    numbers: &mut [i32],
-) -> Result<usize> {
+/// The cells of a table stream, row by row: how many there are. Refused with 22, 20, 19, 14, 7.
+pub fn read_rows(layout: &Layout, stream: &[u8], kinds: &mut [u8], numbers: &mut [i32]) -> Result<usize> {
     counted(unsafe {
         c::strandroost_read_rows(
-            bits.as_ptr(), bits.len(), long_string_refs, stream.as_ptr(), stream.len(), kinds.as_mut_ptr(), kinds.len(),
-            numbers.as_mut_ptr(), numbers.len(),
+            layout.0, stream.as_ptr(), stream.len(), kinds.as_mut_ptr(), kinds.len(), numbers.as_mut_ptr(), numbers.len(),
         )
     })
 }
 
-/// Writes cells handed over row by row: how many bytes that are. Refused with 20, 13, 14, 23, the cells' 16, 17, 8, 18, then 7.
-pub fn write_rows(
-    bits: &[i32],
-    long_string_refs: bool,
-    rows: usize,
-    kinds: &[u8],
-    numbers: &[i32],
-    out: &mut [u8],
-) -> Result<usize> {
+/// Writes cells handed over row by row: how many bytes that are. Refused with 20, 19, 14, 23, the cells' 16, 17, 8, 18, then 7.
+pub fn write_rows(layout: &Layout, rows: usize, kinds: &[u8], numbers: &[i32], out: &mut [u8]) -> Result<usize> {
     counted(unsafe {
         c::strandroost_write_rows(
-            bits.as_ptr(), bits.len(), long_string_refs, rows, kinds.as_ptr(), kinds.len(), numbers.as_ptr(),
-            numbers.len(), out.as_mut_ptr(), out.len(),
+            layout.0, rows, kinds.as_ptr(), kinds.len(), numbers.as_ptr(), numbers.len(), out.as_mut_ptr(), out.len(),
         )
     })
+}
+
+/// A step of the row reader from the place `at`, 0 at first: a cell moves it by one, the end leaves it. Refused with 22, 20, 19,
+/// 14.
+pub fn rows_next(layout: &Layout, stream: &[u8], at: usize) -> Result<Step> {
+    let answer = unsafe { c::strandroost_rows_next(layout.0, stream.as_ptr(), stream.len(), at) };
+    let cell = answer.found.then_some(KindAndNumber { kind: answer.kind, number: answer.number });
+    given(answer.refused, Step { cell, at: answer.at })
 }

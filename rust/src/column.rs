@@ -37,14 +37,7 @@ impl Column {
     /// assert_eq!(column.is_valid_value(&Value::Str(b"ABCDEFGHI".to_vec())), Ok(false));
     /// ```
     pub fn build() -> ColumnBuilder {
-        ColumnBuilder(ColumnParts {
-            coltype: 0,
-            max_len: 0,
-            is_localizable: false,
-            is_nullable: false,
-            is_primary_key: false,
-            range: None,
-        })
+        ColumnBuilder(calls::column_build())
     }
 
     /// The type.
@@ -92,52 +85,54 @@ impl Column {
         }
     }
 
-    /// The bits of the column's type alone: a layout needs no more.
-    pub(crate) fn type_bits(&self) -> Result<i32> {
-        let ColumnBuilder(plain) = Column::build();
-        calls::column_bitfield(ColumnParts { coltype: self.0.coltype, max_len: self.0.max_len, ..plain })
+    pub(crate) fn from_parts(parts: ColumnParts) -> Column {
+        Column(parts)
+    }
+
+    pub(crate) fn parts(&self) -> ColumnParts {
+        self.0
     }
 }
 
 impl ColumnBuilder {
     /// Sets the localizable mark.
     pub fn localizable(self) -> ColumnBuilder {
-        ColumnBuilder(ColumnParts { is_localizable: true, ..self.0 })
+        ColumnBuilder(calls::column_localizable(self.0))
     }
 
     /// Sets the nullable mark.
     pub fn nullable(self) -> ColumnBuilder {
-        ColumnBuilder(ColumnParts { is_nullable: true, ..self.0 })
+        ColumnBuilder(calls::column_nullable(self.0))
     }
 
     /// Sets the primary key mark.
     pub fn primary_key(self) -> ColumnBuilder {
-        ColumnBuilder(ColumnParts { is_primary_key: true, ..self.0 })
+        ColumnBuilder(calls::column_primary_key(self.0))
     }
 
     /// Sets the least and the largest integer allowed.
     pub fn range(self, min: i32, max: i32) -> ColumnBuilder {
-        ColumnBuilder(ColumnParts { range: Some((min, max)), ..self.0 })
+        ColumnBuilder(calls::column_range(self.0, min, max))
     }
 
     /// The column of integers of 16 bits.
     pub fn int16(self) -> Column {
-        Column(ColumnParts { coltype: 0, max_len: 0, ..self.0 })
+        Column(calls::column_int16(self.0))
     }
 
     /// The column of integers of 32 bits.
     pub fn int32(self) -> Column {
-        Column(ColumnParts { coltype: 1, max_len: 0, ..self.0 })
+        Column(calls::column_int32(self.0))
     }
 
     /// The column of texts of at most so many bytes, 0 for any. A maximum above 255 is refused with 19 where the column is used.
     pub fn string(self, max_len: u32) -> Column {
-        Column(ColumnParts { coltype: 2, max_len, ..self.0 })
+        Column(calls::column_string(self.0, max_len))
     }
 
     /// The column of streams.
     pub fn binary(self) -> Column {
-        Column(ColumnParts { coltype: 3, max_len: 0, ..self.0 })
+        Column(calls::column_binary(self.0))
     }
 
     /// The column that bits name; a nullable mark and a range made before stay. Refused with 13.

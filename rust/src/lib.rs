@@ -31,5 +31,5 @@ mod value;
 pub use column::{Column, ColumnBuilder, ColumnType};
 pub use refusal::{Place, Refusal, Result};
 pub use stringpool::{StringPool, StringRef};
-pub use table::Table;
+pub use table::{Rows, Table};
 pub use value::{Value, ValueRef};

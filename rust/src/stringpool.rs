@@ -1,6 +1,6 @@
 //! The string pool with its own rooms.
 
-use crate::calls::{self, Rooms, RoomsMut, State};
+use crate::calls::{self, KindAndNumber, Rooms, RoomsMut, State};
 use crate::refusal::{Refusal, Result};
 
 /// The largest text room.
@@ -105,12 +105,45 @@ impl StringPool {
 
     /// The text of a reference, empty past the last entry.
     pub fn get(&self, reference: StringRef) -> Result<Vec<u8>> {
-        let place = reference.0 as usize - 1;
-        let length = if place < self.state.num_strings { self.lengths[place] as usize } else { 0 };
-        let mut out = vec![0; length];
+        let mut out = vec![0; self.text_length(reference.0)];
         let bytes = calls::get(self.state, self.rooms(), reference.0, &mut out)?;
         out.truncate(bytes);
         Ok(out)
+    }
+
+    /// How long the text of a number is, 0 where it has none.
+    fn text_length(&self, number: i32) -> usize {
+        let place = usize::try_from(number).ok().and_then(|number| number.checked_sub(1));
+        let used = self.lengths.iter().take(self.state.num_strings);
+        place.and_then(|place| used.skip(place).next()).map_or(0, |length| *length as usize)
+    }
+
+    /// A value that a cell stands for, and its text, where it is one.
+    pub(crate) fn value_of(&self, cell: KindAndNumber) -> Result<(KindAndNumber, Vec<u8>)> {
+        let shown = calls::to_value(cell, self.state, self.rooms())?;
+        let mut out = vec![0; if cell.kind == 2 { self.text_length(cell.number) } else { 0 }];
+        let bytes = calls::to_text(cell, self.state, self.rooms(), &mut out)?;
+        out.truncate(bytes);
+        Ok((shown, out))
+    }
+
+    /// Creates a value, in rooms that grow as a text needs them.
+    pub(crate) fn create(&mut self, value: KindAndNumber, text: &[u8]) -> Result<KindAndNumber> {
+        loop {
+            let state = self.state;
+            match calls::create(value, text, state, self.rooms_mut()) {
+                Ok((cell, after)) => {
+                    self.state = after;
+                    return Ok(cell);
+                }
+                Err(refusal) => self.grow(refusal, text.len())?,
+            }
+        }
+    }
+
+    pub(crate) fn remove(&mut self, cell: KindAndNumber) -> Result<()> {
+        self.state = calls::remove(cell, self.state, self.rooms_mut())?;
+        Ok(())
     }
 
     /// How many references count on a number, 0 past the last entry.

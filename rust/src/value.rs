@@ -44,29 +44,47 @@ impl ValueRef {
     /// # Ok::<(), strandroost::Refusal>(())
     /// ```
     pub fn create(value: Value, pool: &mut StringPool) -> Result<ValueRef> {
-        Ok(match value {
-            Value::Null => ValueRef::Null,
-            Value::Int(number) => ValueRef::Int(number),
-            Value::Str(text) => ValueRef::Str(pool.incref(&text)?),
-            Value::Binary => ValueRef::Binary,
-        })
+        let (kind, number, text): (u8, i32, &[u8]) = match &value {
+            Value::Null => (0, 0, &[]),
+            Value::Int(number) => (1, *number, &[]),
+            Value::Str(text) => (2, 0, text),
+            Value::Binary => (3, 0, &[]),
+        };
+        ValueRef::from_cell(pool.create(KindAndNumber { kind, number }, text)?)
     }
 
     /// Drops the reference, where the cell holds one. Refused as [`StringPool::decref`].
+    ///
+    /// ```
+    /// use strandroost::{StringPool, StringRef, ValueRef};
+    ///
+    /// let mut pool = StringPool::new(1252)?;
+    /// ValueRef::Int(40_000).remove(&mut pool)?;
+    /// let past = ValueRef::Str(StringRef::new(1)?).remove(&mut pool).unwrap_err();
+    /// assert_eq!(past.to_string(), "the reference dropped lies past the last entry (refusal 9)");
+    /// # Ok::<(), strandroost::Refusal>(())
+    /// ```
     pub fn remove(self, pool: &mut StringPool) -> Result<()> {
-        match self {
-            ValueRef::Str(reference) => pool.decref(reference),
-            ValueRef::Null | ValueRef::Int(_) | ValueRef::Binary => Ok(()),
-        }
+        pool.remove(self.handed())
     }
 
-    /// The value, with its text from the pool.
+    /// The value, with its text from the pool; empty past the last entry.
+    ///
+    /// ```
+    /// use strandroost::{StringPool, StringRef, Value, ValueRef};
+    ///
+    /// let pool = StringPool::load(&[0xe4, 4, 0, 0, 2, 0, 1, 0], b"AB")?;
+    /// assert_eq!(ValueRef::Str(StringRef::new(1)?).to_value(&pool)?, Value::Str(b"AB".to_vec()));
+    /// assert_eq!(ValueRef::Int(-7).to_value(&pool)?, Value::Int(-7));
+    /// # Ok::<(), strandroost::Refusal>(())
+    /// ```
     pub fn to_value(self, pool: &StringPool) -> Result<Value> {
-        Ok(match self {
-            ValueRef::Null => Value::Null,
-            ValueRef::Int(number) => Value::Int(number),
-            ValueRef::Str(reference) => Value::Str(pool.get(reference)?),
-            ValueRef::Binary => Value::Binary,
+        let (shown, text) = pool.value_of(self.handed())?;
+        Ok(match shown.kind {
+            0 => Value::Null,
+            1 => Value::Int(shown.number),
+            2 => Value::Str(text),
+            _ => Value::Binary,
         })
     }
 
@@ -79,11 +97,11 @@ impl ValueRef {
         }
     }
 
-    pub(crate) fn from_cell(kind: u8, number: i32) -> Result<ValueRef> {
-        Ok(match kind {
+    pub(crate) fn from_cell(cell: KindAndNumber) -> Result<ValueRef> {
+        Ok(match cell.kind {
             0 => ValueRef::Null,
-            1 => ValueRef::Int(number),
-            2 => ValueRef::Str(StringRef::new(number)?),
+            1 => ValueRef::Int(cell.number),
+            2 => ValueRef::Str(StringRef::new(cell.number)?),
             _ => ValueRef::Binary,
         })
     }

@@ -12,8 +12,8 @@ use Rattle.common.specs.declared.refusal.Refusal.{Refusal}
 use Rattle.common.proofs.Outcomes.{refused-gives}
 use Rattle.stringpool.specs.Show.{orEmpty}
 use Rattle.stringpool.specs.Write.{writeAnswer}
-use Rattle.msi.specs.Answers.{countIn, handed}
-use Rattle.msi.specs.declared.answers.Count.{Count}
+use Rattle.msi_forms.specs.Answers.{refusalIn, countIn, handed}
+use Rattle.msi_forms.specs.declared.answers.Count.{Count}
 
 -- a refusal, whatever was to be given
 refusalAs : {A B : Type 0} → Answer A → Answer B
@@ -28,6 +28,20 @@ shown-refused {B} (refused n at) why more e = ap (refusalAs {B = B}) e
 shown-given : {B : Type 0} (shown : Answer (List ℕ)) (more : List ℕ → Answer B) → gives tt ≡ refusalOf shown → more (orEmpty shown) ≡ onGiven shown more
 shown-given (gives t) more e = refl
 shown-given (refused n at) more e = absurd (refused-gives (sym e))
+
+pub refusal-kept : (shown : Answer (List ℕ)) → refusalIn (refusalOf shown) ≡ refusalIn shown
+refusal-kept (gives t) = refl
+refusal-kept (refused n at) = refl
+
+-- where something else than the text is given for it
+pub refusal-said : {A : Type 0} (shown : Answer (List ℕ)) (x : A) (why : Refusal) → refusedBy why ≡ onGiven shown (λ t. gives x) → refusedBy why ≡ refusalOf shown
+unfolding refusalAs
+refusal-said (gives t) x why e = absurd (refused-gives e)
+refusal-said (refused n at) x why e = ap (refusalAs {B = Unit {0}}) e
+
+pub given-said : {A : Type 0} (shown : Answer (List ℕ)) (x y : A) → gives y ≡ onGiven shown (λ t. gives x) → gives tt ≡ refusalOf shown
+given-said (gives t) x y e = refl
+given-said (refused n at) x y e = absurd (refused-gives (sym e))
 
 -- what writing a text to an output hands out
 abbrev pub written : List ℕ → Answer (ℕ × List ℕ) → Count × List ℕ

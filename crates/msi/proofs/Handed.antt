@@ -4,8 +4,8 @@ use Prim.Native.Nat.{ℕ}
 use Rattle.common.specs.Answers.{Answer, outcome}
 use Rattle.common.specs.Refusals.{refusedBy}
 use Rattle.common.specs.declared.refusal.Refusal.{Refusal}
-use Rattle.msi.specs.Answers.{handed, countIn}
-use Rattle.msi.specs.declared.answers.Count.{Count}
+use Rattle.msi_forms.specs.Answers.{handed, countIn}
+use Rattle.msi_forms.specs.declared.answers.Count.{Count}
 
 pub hands : {A C W : Type 0} (f : A → C) {r : C} {x : A} {w : W} {given : A × W} → r ≡ f x → (x, w) ≡ given → (r, w) ≡ handed f given
 hands {C = C} f {w = w} made called = ap (λ (k : C). (k, w)) made ∙ ap (handed f) called

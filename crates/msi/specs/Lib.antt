@@ -1,4 +1,1 @@
-pub mod Answers
-pub mod Columns
-pub mod Pools
-pub mod Tables
+pub mod Texts

@@ -1,197 +1,104 @@
-// Columns: bits read and written, and the check of a value.
-use crate::answers::ColumnAnswer;
-use crate::answers::ColumnParts;
-use crate::answers::Flag;
-use crate::answers::Reference;
-use crate::answers::none;
-use crate::answers::told;
-use column::Bitfield;
+// Columns: the marks and the type of one being made, its bits, and the check of a value.
 use column::Column;
-use column::ColumnBuilder;
-use column::ColumnMade;
-use column::ColumnType;
-use column::Validity;
-use column::ValueRange;
-use stringpool::StringRef;
-use value::ValueRef;
+use msi_forms::answers::ColumnAnswer;
+use msi_forms::answers::ColumnParts;
+use msi_forms::answers::Flag;
+use msi_forms::answers::Reference;
+use msi_forms::columns::builder_in;
+use msi_forms::columns::builder_out;
+use msi_forms::columns::column_in;
+use msi_forms::columns::from_bits;
+use msi_forms::columns::from_check;
+use msi_forms::columns::from_made;
+use msi_forms::columns::parts_of;
+use msi_forms::values::value_in;
 ghost use mathlib.Core.Path.{_≡_};
 ghost use Rattle.value.specs.Kinds.{kindOf, numberOf};
-ghost use Rattle.column.specs.Columns.{bitsColumn, columnMadeAs, bitfieldAnswer, bitfieldAs};
-ghost use Rattle.column.specs.Check.{checkAnswer, validityAs};
-ghost use Rattle.msi.specs.Answers.{flagIn};
-ghost use Rattle.msi.specs.Pools.{referenceIn};
-ghost use Rattle.msi.specs.Columns.{typeIn, rangeIn, builderIn, columnFrom, typeNumber, typeMaximum, partsOf, columnIn, valueIn};
+ghost use Rattle.column.specs.Columns.{building, withLocalizable, withNullable, withPrimaryKey, withRange, finished, bitsColumn, bitfieldAnswer};
+ghost use Rattle.column.specs.Check.{checkAnswer};
+ghost use Rattle.column.specs.declared.column.ColumnType.the-variants as types;
+ghost use Rattle.msi_forms.specs.Answers.{flagIn};
+ghost use Rattle.msi_forms.specs.Pools.{referenceIn};
+ghost use Rattle.msi_forms.specs.Columns.{builderIn, builderOut, columnFrom, partsOf, columnIn};
+ghost use Rattle.msi_forms.specs.Values.{valueIn};
 
-fn type_in(parts: ColumnParts) -> ColumnType
-    ensures { λ r. ⌜ r ≡ typeIn parts ⌝ }
+#[no_mangle]
+pub extern "C" fn strandroost_column_build() -> ColumnParts
+    ensures { λ r. ⌜ r ≡ builderOut building ⌝ }
 {
-    if parts.coltype == 0 {
-        return ColumnType::Int16;
-    }
-    if parts.coltype == 1 {
-        return ColumnType::Int32;
-    }
-    if parts.coltype == 2 {
-        return ColumnType::Str(parts.max_len);
-    }
-    ColumnType::Binary
+    builder_out(Column::build())
 }
 
-fn range_in(parts: ColumnParts) -> ValueRange
-    ensures { λ r. ⌜ r ≡ rangeIn parts ⌝ }
+#[no_mangle]
+pub extern "C" fn strandroost_column_localizable(builder: ColumnParts) -> ColumnParts
+    ensures { λ r. ⌜ r ≡ builderOut (withLocalizable (builderIn builder)) ⌝ }
 {
-    if parts.has_range {
-        return ValueRange::Within {
-            min: parts.min,
-            max: parts.max,
-        };
-    }
-    ValueRange::Any
+    let being_made = builder_in(builder);
+    builder_out(being_made.localizable())
 }
 
-fn builder_in(parts: ColumnParts) -> ColumnBuilder
-    ensures { λ r. ⌜ r ≡ builderIn parts ⌝ }
+#[no_mangle]
+pub extern "C" fn strandroost_column_nullable(builder: ColumnParts) -> ColumnParts
+    ensures { λ r. ⌜ r ≡ builderOut (withNullable (builderIn builder)) ⌝ }
 {
-    let value_range = range_in(parts);
-    ColumnBuilder {
-        is_localizable: parts.is_localizable,
-        is_nullable: parts.is_nullable,
-        is_primary_key: parts.is_primary_key,
-        value_range,
-    }
+    let being_made = builder_in(builder);
+    builder_out(being_made.nullable())
 }
 
-fn column_in(parts: ColumnParts) -> Column
-    ensures { λ r. ⌜ r ≡ columnFrom parts ⌝ }
+#[no_mangle]
+pub extern "C" fn strandroost_column_primary_key(builder: ColumnParts) -> ColumnParts
+    ensures { λ r. ⌜ r ≡ builderOut (withPrimaryKey (builderIn builder)) ⌝ }
 {
-    let coltype = type_in(parts);
-    let value_range = range_in(parts);
-    Column {
-        coltype,
-        is_localizable: parts.is_localizable,
-        is_nullable: parts.is_nullable,
-        is_primary_key: parts.is_primary_key,
-        value_range,
-    }
+    let being_made = builder_in(builder);
+    builder_out(being_made.primary_key())
 }
 
-fn type_number(coltype: ColumnType) -> u32
-    ensures { λ r. ⌜ r ≡ typeNumber coltype ⌝ }
+#[no_mangle]
+pub extern "C" fn strandroost_column_range(builder: ColumnParts, min: i32, max: i32) -> ColumnParts
+    ensures { λ r. ⌜ r ≡ builderOut (withRange (builderIn builder) min max) ⌝ }
 {
-    match coltype {
-        ColumnType::Int16 => 0,
-        ColumnType::Int32 => 1,
-        ColumnType::Str(_) => 2,
-        ColumnType::Binary => 3,
-    }
+    let being_made = builder_in(builder);
+    builder_out(being_made.range(min, max))
 }
 
-fn type_maximum(coltype: ColumnType) -> u32
-    ensures { λ r. ⌜ r ≡ typeMaximum coltype ⌝ }
+#[no_mangle]
+pub extern "C" fn strandroost_column_int16(builder: ColumnParts) -> ColumnParts
+    ensures { λ r. ⌜ r ≡ partsOf (finished (builderIn builder) types.Int16) ⌝ }
 {
-    match coltype {
-        ColumnType::Int16 => 0,
-        ColumnType::Int32 => 0,
-        ColumnType::Str(max) => max,
-        ColumnType::Binary => 0,
-    }
+    let being_made = builder_in(builder);
+    parts_of(being_made.int16())
 }
 
-fn parts_of(column: Column, parts: ColumnParts) -> ColumnParts
-    ensures { λ r. ⌜ r ≡ partsOf parts column ⌝ }
+#[no_mangle]
+pub extern "C" fn strandroost_column_int32(builder: ColumnParts) -> ColumnParts
+    ensures { λ r. ⌜ r ≡ partsOf (finished (builderIn builder) types.Int32) ⌝ }
 {
-    let coltype = column.coltype;
-    ColumnParts {
-        coltype: type_number(coltype),
-        max_len: type_maximum(coltype),
-        is_localizable: column.is_localizable,
-        is_nullable: column.is_nullable,
-        is_primary_key: column.is_primary_key,
-        has_range: parts.has_range,
-        min: parts.min,
-        max: parts.max,
-    }
+    let being_made = builder_in(builder);
+    parts_of(being_made.int32())
 }
 
-fn from_made(answer: ColumnMade, parts: ColumnParts) -> ColumnAnswer
-    ensures { λ r. ⌜ r ≡ columnIn parts (columnMadeAs answer) ⌝ }
+#[no_mangle]
+pub extern "C" fn strandroost_column_string(builder: ColumnParts, max_len: u32) -> ColumnParts
+    ensures { λ r. ⌜ r ≡ partsOf (finished (builderIn builder) (types.Str «max_len»)) ⌝ }
 {
-    match answer {
-        ColumnMade::Made(column) => ColumnAnswer {
-            refused: none(),
-            column: parts_of(column, parts),
-        },
-        ColumnMade::Refused(why) => ColumnAnswer {
-            refused: told(why),
-            column: ColumnParts {
-                coltype: 0,
-                max_len: 0,
-                is_localizable: false,
-                is_nullable: false,
-                is_primary_key: false,
-                has_range: false,
-                min: 0,
-                max: 0,
-            },
-        },
-    }
+    let being_made = builder_in(builder);
+    parts_of(being_made.string(max_len))
 }
 
-fn from_bits(answer: Bitfield) -> Reference
-    ensures { λ r. ⌜ r ≡ referenceIn (bitfieldAs answer) ⌝ }
+#[no_mangle]
+pub extern "C" fn strandroost_column_binary(builder: ColumnParts) -> ColumnParts
+    ensures { λ r. ⌜ r ≡ partsOf (finished (builderIn builder) types.Binary) ⌝ }
 {
-    match answer {
-        Bitfield::Bits(value) => Reference {
-            refused: none(),
-            value,
-        },
-        Bitfield::Refused(why) => Reference {
-            refused: told(why),
-            value: 0,
-        },
-    }
-}
-
-fn from_check(answer: Validity) -> Flag
-    ensures { λ r. ⌜ r ≡ flagIn (validityAs answer) ⌝ }
-{
-    match answer {
-        Validity::Valid => Flag {
-            refused: none(),
-            value: true,
-        },
-        Validity::Invalid => Flag {
-            refused: none(),
-            value: false,
-        },
-        Validity::Refused(why) => Flag {
-            refused: told(why),
-            value: false,
-        },
-    }
-}
-
-fn value_in(kind: u8, number: i32) -> ValueRef
-    ensures { λ r. ⌜ r ≡ valueIn kind number ⌝ }
-{
-    if kind == 0 {
-        return ValueRef::Null;
-    }
-    if kind == 1 {
-        return ValueRef::Int(number);
-    }
-    if kind == 2 {
-        return ValueRef::Str(StringRef(number));
-    }
-    ValueRef::Binary
+    let being_made = builder_in(builder);
+    parts_of(being_made.binary())
 }
 
 #[no_mangle]
 pub extern "C" fn strandroost_column_from_bitfield(builder: ColumnParts, bits: i32) -> ColumnAnswer
-    ensures { λ r. ⌜ r ≡ columnIn builder (bitsColumn (builderIn builder) 0 bits) ⌝ }
+    ensures { λ r. ⌜ r ≡ columnIn (bitsColumn (builderIn builder) 0 bits) ⌝ }
 {
     let being_made = builder_in(builder);
-    from_made(being_made.with_bitfield(bits), builder)
+    from_made(being_made.with_bitfield(bits))
 }
 
 #[no_mangle]

@@ -1,66 +1,13 @@
 // Stream names.
-use crate::answers::Count;
-use crate::answers::Flag;
-use crate::answers::Name;
-use crate::answers::none;
-use crate::answers::told;
-use streamname::Decoded;
-use streamname::Encoded;
-use streamname::Validity;
+use msi_forms::answers::Count;
+use msi_forms::answers::Flag;
+use msi_forms::answers::Name;
+use msi_forms::names::decoded;
+use msi_forms::names::encoded;
+use msi_forms::names::judged;
 ghost use mathlib.Core.Path.{_≡_};
-ghost use Rattle.streamname.specs.Calls.{encodedAs, decodedAs, judgedAs, encodeOutcome, decodeOutcome, validAnswer};
-ghost use Rattle.msi.specs.Answers.{countIn, nameIn, flagIn, handed};
-
-fn encoded(answer: Encoded) -> Count
-    ensures { λ r. ⌜ r ≡ countIn (encodedAs answer) ⌝ }
-{
-    match answer {
-        Encoded::Units(value) => Count {
-            refused: none(),
-            value,
-        },
-        Encoded::Refused(why) => Count {
-            refused: told(why),
-            value: 0,
-        },
-    }
-}
-
-fn decoded(answer: Decoded) -> Name
-    ensures { λ r. ⌜ r ≡ nameIn (decodedAs answer) ⌝ }
-{
-    match answer {
-        Decoded::Name { units, is_table } => Name {
-            refused: none(),
-            units,
-            is_table,
-        },
-        Decoded::Refused(why) => Name {
-            refused: told(why),
-            units: 0,
-            is_table: false,
-        },
-    }
-}
-
-fn judged(answer: Validity) -> Flag
-    ensures { λ r. ⌜ r ≡ flagIn (judgedAs answer) ⌝ }
-{
-    match answer {
-        Validity::Valid => Flag {
-            refused: none(),
-            value: true,
-        },
-        Validity::Invalid => Flag {
-            refused: none(),
-            value: false,
-        },
-        Validity::Refused(why) => Flag {
-            refused: told(why),
-            value: false,
-        },
-    }
-}
+ghost use Rattle.streamname.specs.Calls.{encodeOutcome, decodeOutcome, validAnswer};
+ghost use Rattle.msi_forms.specs.Answers.{countIn, nameIn, flagIn, handed};
 
 #[no_mangle]
 pub extern "C" fn strandroost_encode(name: &[u16], is_table: bool, out: &mut [u16]) -> Count

@@ -1,146 +1,100 @@
-// Tables, by the bitfields of their columns.
-use crate::answers::CellAnswer;
-use crate::answers::Count;
-use crate::answers::none;
-use crate::answers::refused_count;
-use crate::answers::told;
-use common::Refusal;
-use common::sizes::MAX_BYTES;
-use table::CellRead;
-use table::Counted;
-use table::Laid;
+// Tables: a layout by its columns or their bitfields, and the calls on it. A layout handed over need not be one that was made: each
+// call judges it.
+use msi_forms::answers::CellAnswer;
+use msi_forms::answers::Count;
+use msi_forms::answers::StepAnswer;
+use msi_forms::answers::TableAnswer;
+use msi_forms::answers::TableParts;
+use msi_forms::tables::from_cell;
+use msi_forms::tables::from_laid;
+use msi_forms::tables::from_rows;
+use msi_forms::tables::from_step;
+use msi_forms::tables::table_in;
 use table::Table;
-use value::ValueRef;
 ghost use mathlib.Core.Path.{_≡_};
-ghost use Rattle.common.specs.Answers.{gives, outcome};
-ghost use Rattle.common.specs.Refusals.{refusedBy};
-ghost use Rattle.value.specs.Kinds.{cellAs};
-ghost use Rattle.table.specs.Layout.{bitfieldsOutcome};
-ghost use Rattle.table.specs.Reading.{countedAs, cellReadAs, numRowsAnswer, readCellAnswer, readRowsAnswer};
-ghost use Rattle.table.specs.Writing.{writeRowsAnswer};
-ghost use Rattle.msi.specs.Answers.{countIn, handed};
-ghost use Rattle.msi.specs.Tables.{cellIn, sized, onLaid};
+ghost use Rattle.table.specs.Layout.{bitfieldsOutcome, columnsOutcome};
+ghost use Rattle.table.specs.Reading.{numRowsAnswer, readCellAnswer, readRowsOutcome};
+ghost use Rattle.table.specs.Writing.{writeRowsOutcome};
+ghost use Rattle.rows.specs.Next.{nextOutcome};
+ghost use Rattle.msi_forms.specs.Answers.{countIn, handed};
+ghost use Rattle.msi_forms.specs.Tables.{tableIn, laidIn, cellIn, stepIn};
 
-fn from_rows(answer: Counted) -> Count
-    ensures { λ r. ⌜ r ≡ countIn (countedAs answer) ⌝ }
+// The layout of the columns handed over, judged.
+#[no_mangle]
+pub extern "C" fn strandroost_table_new(table: TableParts) -> TableAnswer
+    ensures { λ r. ⌜ r ≡ laidIn (columnsOutcome (tableIn table .columns) (tableIn table .count) (tableIn table .«long_string_refs»)) ⌝ }
 {
-    match answer {
-        Counted::Count(value) => Count {
-            refused: none(),
-            value,
-        },
-        Counted::Refused(why) => refused_count(why),
-    }
-}
-
-fn refused_cell(why: Refusal) -> CellAnswer
-    ensures { λ r. ⌜ r ≡ cellIn (refusedBy why) ⌝ }
-{
-    CellAnswer {
-        refused: told(why),
-        kind: 0,
-        number: 0,
-    }
-}
-
-fn given_cell(value: ValueRef) -> CellAnswer
-    ensures { λ r. ⌜ r ≡ cellIn (gives (cellAs value)) ⌝ }
-{
-    CellAnswer {
-        refused: none(),
-        kind: value.kind(),
-        number: value.number(),
-    }
-}
-
-fn from_cell(answer: CellRead) -> CellAnswer
-    ensures { λ r. ⌜ r ≡ cellIn (cellReadAs answer) ⌝ }
-{
-    match answer {
-        CellRead::Value(value) => given_cell(value),
-        CellRead::Refused(why) => refused_cell(why),
-    }
+    let parts = table_in(table);
+    let columns = parts.columns;
+    let made = Table::new(columns, parts.count, parts.long_string_refs);
+    from_laid(made)
 }
 
 #[no_mangle]
-pub extern "C" fn strandroost_num_rows(bits: &[i32], long_string_refs: bool, stream: &[u8]) -> Count
-    ensures { λ r. ⌜ r ≡ countIn (sized (now (stream .entry)) (onLaid (bitfieldsOutcome (now (bits .entry)) «long_string_refs»)
-        (λ t. numRowsAnswer t (now (stream .entry))))) ⌝ }
+pub extern "C" fn strandroost_table_from_bitfields(
+    bits: &[i32],
+    long_string_refs: bool,
+) -> TableAnswer
+    ensures { λ r. ⌜ r ≡ laidIn (bitfieldsOutcome (now (bits .entry)) «long_string_refs») ⌝ }
 {
-    if MAX_BYTES < stream.len() {
-        return refused_count(Refusal::OverSize);
-    }
-    let made = Table::from_bitfields(bits, long_string_refs);
-    let laid = made.answer;
-    match laid {
-        Laid::Refused(why) => refused_count(why),
-        Laid::Made => from_rows(made.table.num_rows(stream)),
-    }
+    from_laid(Table::from_bitfields(bits, long_string_refs))
+}
+
+#[no_mangle]
+pub extern "C" fn strandroost_num_rows(table: TableParts, stream: &[u8]) -> Count
+    ensures { λ r. ⌜ r ≡ countIn (numRowsAnswer (tableIn table) (now (stream .entry))) ⌝ }
+{
+    let made = table_in(table);
+    from_rows(made.num_rows(stream))
 }
 
 #[no_mangle]
 pub extern "C" fn strandroost_read_cell(
-    bits: &[i32],
-    long_string_refs: bool,
+    table: TableParts,
     stream: &[u8],
     row: usize,
     column: usize,
 ) -> CellAnswer
-    ensures { λ r. ⌜ r ≡ cellIn (sized (now (stream .entry)) (onLaid (bitfieldsOutcome (now (bits .entry)) «long_string_refs»)
-        (λ t. readCellAnswer t (now (stream .entry)) row column))) ⌝ }
+    ensures { λ r. ⌜ r ≡ cellIn (readCellAnswer (tableIn table) (now (stream .entry)) row column) ⌝ }
 {
-    if MAX_BYTES < stream.len() {
-        return refused_cell(Refusal::OverSize);
-    }
-    let made = Table::from_bitfields(bits, long_string_refs);
-    let laid = made.answer;
-    match laid {
-        Laid::Refused(why) => refused_cell(why),
-        Laid::Made => from_cell(made.table.read_cell(stream, row, column)),
-    }
+    let made = table_in(table);
+    from_cell(made.read_cell(stream, row, column))
 }
 
 #[no_mangle]
 pub extern "C" fn strandroost_read_rows(
-    bits: &[i32],
-    long_string_refs: bool,
+    table: TableParts,
     stream: &[u8],
     kinds: &mut [u8],
     numbers: &mut [i32],
 ) -> Count
     ensures { λ r. ⌜ (r, (now (kinds .exit), now (numbers .exit)))
-        ≡ handed countIn (outcome (now (kinds .entry), now (numbers .entry)) (sized (now (stream .entry))
-        (onLaid (bitfieldsOutcome (now (bits .entry)) «long_string_refs»)
-        (λ t. readRowsAnswer t (now (stream .entry)) (now (kinds .entry)) (now (numbers .entry)))))) ⌝ }
+        ≡ handed countIn (readRowsOutcome (tableIn table) (now (stream .entry)) (now (kinds .entry)) (now (numbers .entry))) ⌝ }
 {
-    if MAX_BYTES < stream.len() {
-        return refused_count(Refusal::OverSize);
-    }
-    let made = Table::from_bitfields(bits, long_string_refs);
-    let laid = made.answer;
-    match laid {
-        Laid::Refused(why) => refused_count(why),
-        Laid::Made => from_rows(made.table.read_rows(stream, kinds, numbers)),
-    }
+    let made = table_in(table);
+    from_rows(made.read_rows(stream, kinds, numbers))
 }
 
 #[no_mangle]
 pub extern "C" fn strandroost_write_rows(
-    bits: &[i32],
-    long_string_refs: bool,
+    table: TableParts,
     rows: usize,
     kinds: &[u8],
     numbers: &[i32],
     out: &mut [u8],
 ) -> Count
     ensures { λ r. ⌜ (r, now (out .exit))
-        ≡ handed countIn (outcome (now (out .entry)) (onLaid (bitfieldsOutcome (now (bits .entry)) «long_string_refs»)
-        (λ t. writeRowsAnswer t rows (record { kinds = now (kinds .entry); numbers = now (numbers .entry) }) (now (out .entry))))) ⌝ }
+        ≡ handed countIn (writeRowsOutcome (tableIn table) rows (record { kinds = now (kinds .entry); numbers = now (numbers .entry) }) (now (out .entry))) ⌝ }
 {
-    let made = Table::from_bitfields(bits, long_string_refs);
-    let laid = made.answer;
-    match laid {
-        Laid::Refused(why) => refused_count(why),
-        Laid::Made => from_rows(made.table.write_rows(rows, kinds, numbers, out)),
-    }
+    let made = table_in(table);
+    from_rows(made.write_rows(rows, kinds, numbers, out))
+}
+
+// A step of the row reader from the place `at`: state in, state out.
+#[no_mangle]
+pub extern "C" fn strandroost_rows_next(table: TableParts, stream: &[u8], at: usize) -> StepAnswer
+    ensures { λ r. ⌜ r ≡ stepIn (nextOutcome (tableIn table) (now (stream .entry)) at) ⌝ }
+{
+    let made = table_in(table);
+    from_step(rows::next_at(stream, at, made))
 }

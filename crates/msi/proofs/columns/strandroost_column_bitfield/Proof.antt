@@ -1,4 +1,4 @@
-use Rattle.msi.specs.Pools.{referenceIn}
+use Rattle.msi_forms.specs.Pools.{referenceIn}
 use Rattle.column.specs.Columns.{bitfieldAnswer}
 use mathlib.Core.Path.{ap, _∙_}
 use borrow.Author.Needs.{needs}

@@ -1,4 +1,4 @@
-use Rattle.msi.specs.Columns.{columnIn}
+use Rattle.msi_forms.specs.Columns.{columnIn}
 use Rattle.column.specs.declared.column.ColumnBuilder.{ColumnBuilder}
 use Rattle.column.specs.Columns.{bitsColumn}
 use mir.ValLaws.{toZ-ofZ}
@@ -23,7 +23,7 @@ returns : tie.Need-returns
 returns c =
     let bits-fits : SFits w32 (c .before .before .before .args .bits) = search needs in
     let bits-back : toZ w32 (ofZ w32 (c .before .before .before .args .bits)) ≡ c .before .before .before .args .bits = toZ-ofZ w32 (c .before .before .before .args .bits) bits-fits in
-    c .from-made .ensures ∙ ap (columnIn (c .before .before .before .args .builder)) (c .before .with-bitfield .ensures ∙ ap₂ (λ (b : ColumnBuilder) (z : ℤ). bitsColumn b 0 z) (c .before .before .builder-in .ensures) bits-back)
+    c .from-made .ensures ∙ ap columnIn (c .before .with-bitfield .ensures ∙ ap₂ (λ (b : ColumnBuilder) (z : ℤ). bitsColumn b 0 z) (c .before .before .builder-in .ensures) bits-back)
 
 pub strandroost-column-from-bitfield-spec : {M : Type 1} → statement M
 strandroost-column-from-bitfield-spec =

@@ -1,5 +1,5 @@
-use Rattle.msi.specs.Columns.{valueIn}
-use Rattle.msi.specs.Answers.{flagIn}
+use Rattle.msi_forms.specs.Values.{valueIn}
+use Rattle.msi_forms.specs.Answers.{flagIn}
 use Rattle.column.specs.declared.column.Column.{Column}
 use Rattle.column.specs.Check.{checkAnswer}
 use Rattle.value.specs.declared.ValueRef.{ValueRef}

@@ -1,0 +1,51 @@
+use Rattle.stringpool.specs.Pool.{rooms}
+use denote.Ref.{now}
+use Rattle.stringpool.specs.Drop.{dropOutcome}
+use mir.ValLaws.{toZ-ofZ}
+use mir.Val.{SFits, toZ, ofZ}
+use mir.Syntax.{w32}
+use lib.IntN.{ℤ}
+use mathlib.Core.Path.{_≡_, ap, _∙_}
+use Rattle.msi_forms.specs.Pools.{stateIn, poolIn}
+use Rattle.msi.proofs.Handed.{hands}
+use borrow.Author.Needs.{needs}
+use Rattle.msi.proofs.pools.strandroost_decref.Statement.{statement}
+use Rattle.msi.proofs.pools.strandroost_decref.Tie as tie
+
+state-requires : tie.Need-state-requires
+state-requires c κs = search needs
+
+decref-requires : tie.Need-decref-requires
+decref-requires c κs = search needs
+
+from-dropped-requires : tie.Need-from-dropped-requires
+from-dropped-requires c κs = search needs
+
+same-length : tie.Need-same-length
+same-length c = search needs
+
+same-length-2 : tie.Need-same-length-2
+same-length-2 c = search needs
+
+same-length-3 : tie.Need-same-length-3
+same-length-3 c = search needs
+
+returns : tie.Need-returns
+returns c =
+    let s = c .before .before .before .before .before .before .before .before .before .before .before .before .before .before .before .args in
+    let z : ℤ = s .number in
+    let fits : SFits w32 z = search needs in
+    let back : toZ w32 (ofZ w32 z) ≡ z = toZ-ofZ w32 z fits in
+    hands poolIn (c .from-dropped .ensures) (rw (c .before .before .before .before .before .before .before .before .before .before .before .state .ensures) at (c .before .before .before .before .before .before .before .decref .ensures) ∙ ap (λ (k : ℤ). dropOutcome (stateIn (s .pool)) (rooms (now (s .lengths)) (now (s .counts)) (now (s .text))) k) back)
+
+pub strandroost-decref-spec : {M : Type 1} → statement M
+strandroost-decref-spec =
+    tie.close
+    (tie.spec
+    state-requires
+    decref-requires
+    from-dropped-requires
+    same-length
+    same-length-2
+    same-length-3
+    returns)

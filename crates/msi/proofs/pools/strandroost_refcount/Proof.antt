@@ -1,0 +1,34 @@
+use Rattle.msi_forms.specs.Pools.{stateIn}
+use Rattle.stringpool.specs.Pool.{rooms}
+use denote.Ref.{now}
+use Rattle.stringpool.specs.Show.{refcountAnswer}
+use mir.ValLaws.{toZ-ofZ}
+use mir.Val.{SFits, toZ, ofZ}
+use mir.Syntax.{w32}
+use lib.IntN.{ℤ}
+use mathlib.Core.Path.{_≡_, ap, _∙_}
+use Rattle.msi_forms.specs.Answers.{countIn}
+use borrow.Author.Needs.{needs}
+use Rattle.msi.proofs.pools.strandroost_refcount.Statement.{statement}
+use Rattle.msi.proofs.pools.strandroost_refcount.Tie as tie
+
+state-requires : tie.Need-state-requires
+state-requires c κs = search needs
+
+refcount-requires : tie.Need-refcount-requires
+refcount-requires c κs = search needs
+
+from-counted-requires : tie.Need-from-counted-requires
+from-counted-requires c κs = search needs
+
+returns : tie.Need-returns
+returns c =
+    let s = c .before .before .before .before .before .before .args in
+    let z : ℤ = s .number in
+    let fits : SFits w32 z = search needs in
+    let back : toZ w32 (ofZ w32 z) ≡ z = toZ-ofZ w32 z fits in
+    c .from-counted .ensures ∙ ap countIn (rw (c .before .before .state .ensures) at (c .before .refcount .ensures) ∙ ap (λ (k : ℤ). refcountAnswer (stateIn (s .pool)) (rooms (now (s .lengths)) (now (s .counts)) (now (s .text))) k) back)
+
+pub strandroost-refcount-spec : {M : Type 1} → statement M
+strandroost-refcount-spec =
+    tie.close (tie.spec state-requires refcount-requires from-counted-requires returns)

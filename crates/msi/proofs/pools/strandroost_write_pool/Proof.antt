@@ -1,0 +1,33 @@
+use Rattle.stringpool.specs.declared.pool.StringPool.{StringPool}
+use Rattle.stringpool.specs.Write.{writeOutcome, poolBytes}
+use Rattle.stringpool.specs.Pool.{rooms}
+use denote.Ref.{now}
+use mathlib.Core.Path.{ap, _∙_}
+use Rattle.msi_forms.specs.Answers.{countIn}
+use Rattle.msi.proofs.Handed.{hands}
+use borrow.Author.Needs.{needs}
+use Rattle.msi.proofs.pools.strandroost_write_pool.Statement.{statement}
+use Rattle.msi.proofs.pools.strandroost_write_pool.Tie as tie
+
+state-requires : tie.Need-state-requires
+state-requires c κs = search needs
+
+write-pool-requires : tie.Need-write-pool-requires
+write-pool-requires c κs = search needs
+
+from-written-requires : tie.Need-from-written-requires
+from-written-requires c κs = search needs
+
+same-length : tie.Need-same-length
+same-length c = search needs
+
+returns : tie.Need-returns
+returns c =
+    let s = c .before .before .before .before .before .before .before .before .before .before .args in
+    let w = rooms (now (s .lengths)) (now (s .counts)) (now (s .text)) in
+    hands countIn (c .from-written .ensures) (c .before .before .before .write-pool .ensures ∙ ap (λ (q : StringPool). writeOutcome q w (poolBytes q w) (now (s .out))) (c .before .before .before .before .before .state .ensures))
+
+pub strandroost-write-pool-spec : {M : Type 1} → statement M
+strandroost-write-pool-spec =
+    tie.close
+    (tie.spec state-requires write-pool-requires from-written-requires same-length returns)

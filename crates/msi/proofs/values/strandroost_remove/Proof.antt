@@ -1,0 +1,62 @@
+use mathlib.Core.Path.{_≡_, sym, ap, ap₂, _∙_}
+use lib.IntN.{ℤ}
+use mir.Syntax.{w32}
+use mir.Val.{SFits, toZ, ofZ}
+use mir.ValLaws.{toZ-ofZ}
+use denote.Ref.{now}
+use Rattle.stringpool.specs.Pool.{rooms}
+use Rattle.stringpool.specs.declared.pool.StringPool.{StringPool}
+use Rattle.msi_forms.specs.Pools.{poolIn}
+use Rattle.value.specs.declared.ValueRef.{ValueRef}
+use Rattle.value.specs.Kinds.{kindOf, numberOf}
+use Rattle.value.specs.Pooled.{removeOutcome}
+use Rattle.msi_forms.specs.Values.{valueIn}
+use Rattle.msi.proofs.Handed.{hands}
+use borrow.Author.Needs.{needs}
+use Rattle.msi.proofs.values.strandroost_remove.Statement.{statement}
+use Rattle.msi.proofs.values.strandroost_remove.Tie as tie
+
+state-requires : tie.Need-state-requires
+state-requires c κs = search needs
+
+value-in-requires : tie.Need-value-in-requires
+value-in-requires c κs = search needs
+
+remove-requires : tie.Need-remove-requires
+remove-requires c κs = search needs
+
+from-dropped-requires : tie.Need-from-dropped-requires
+from-dropped-requires c κs = search needs
+
+same-length : tie.Need-same-length
+same-length c = search needs
+
+same-length-2 : tie.Need-same-length-2
+same-length-2 c = search needs
+
+same-length-3 : tie.Need-same-length-3
+same-length-3 c = search needs
+
+returns : tie.Need-returns
+returns c =
+    let s = c .before .before .before .before .before .before .before .before .before .before .before .before .before .before .before .before .args in
+    let z : ℤ = s .number in
+    let z-fits : SFits w32 z = search needs in
+    let z-back : toZ w32 (ofZ w32 z) ≡ z = toZ-ofZ w32 z z-fits in
+    let w = rooms (now (s .lengths)) (now (s .counts)) (now (s .text)) in
+    let v = c .before .before .before .before .before .before .before .before .before .before .before .value-in .ensures ∙ ap (valueIn (s .kind)) z-back in
+    hands poolIn (c .from-dropped .ensures)
+    (c .before .before .before .before .before .before .before .remove .ensures ∙ ap₂ (λ (x : ValueRef) (p : StringPool). removeOutcome (kindOf x) (numberOf x) p w) v (c .before .before .before .before .before .before .before .before .before .before .before .before .state .ensures))
+
+pub strandroost-remove-spec : {M : Type 1} → statement M
+strandroost-remove-spec =
+    tie.close
+    (tie.spec
+    state-requires
+    value-in-requires
+    remove-requires
+    from-dropped-requires
+    same-length
+    same-length-2
+    same-length-3
+    returns)

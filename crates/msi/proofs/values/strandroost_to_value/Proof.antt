@@ -1,0 +1,43 @@
+use mathlib.Core.Path.{_≡_, sym, ap, ap₂, _∙_}
+use lib.IntN.{ℤ}
+use mir.Syntax.{w32}
+use mir.Val.{SFits, toZ, ofZ}
+use mir.ValLaws.{toZ-ofZ}
+use denote.Ref.{now}
+use Rattle.stringpool.specs.Pool.{rooms}
+use Rattle.stringpool.specs.declared.pool.StringPool.{StringPool}
+use Rattle.value.specs.declared.ValueRef.{ValueRef}
+use Rattle.value.specs.Kinds.{kindOf, numberOf}
+use Rattle.value.specs.Pooled.{shownAnswer}
+use Rattle.msi_forms.specs.Tables.{cellIn}
+use Rattle.msi_forms.specs.Values.{valueIn}
+use borrow.Author.Needs.{needs}
+use Rattle.msi.proofs.values.strandroost_to_value.Statement.{statement}
+use Rattle.msi.proofs.values.strandroost_to_value.Tie as tie
+
+state-requires : tie.Need-state-requires
+state-requires c κs = search needs
+
+value-in-requires : tie.Need-value-in-requires
+value-in-requires c κs = search needs
+
+to-value-requires : tie.Need-to-value-requires
+to-value-requires c κs = search needs
+
+from-shown-requires : tie.Need-from-shown-requires
+from-shown-requires c κs = search needs
+
+returns : tie.Need-returns
+returns c =
+    let s = c .before .before .before .before .before .before .before .args in
+    let z : ℤ = s .number in
+    let z-fits : SFits w32 z = search needs in
+    let z-back : toZ w32 (ofZ w32 z) ≡ z = toZ-ofZ w32 z z-fits in
+    let w = rooms (now (s .lengths)) (now (s .counts)) (now (s .text)) in
+    let v = c .before .before .value-in .ensures ∙ ap (valueIn (s .kind)) z-back in
+    c .from-shown .ensures ∙ ap cellIn (c .before .to-value .ensures ∙ ap₂ (λ (x : ValueRef) (p : StringPool). shownAnswer (kindOf x) (numberOf x) p w) v (c .before .before .before .state .ensures))
+
+pub strandroost-to-value-spec : {M : Type 1} → statement M
+strandroost-to-value-spec =
+    tie.close
+    (tie.spec state-requires value-in-requires to-value-requires from-shown-requires returns)

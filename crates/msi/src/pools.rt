@@ -1,0 +1,202 @@
+// The string pool. Its state is handed in and, where a call changes it, handed out; its rooms are lent to each call.
+use common::Refusal;
+use msi_forms::answers::Count;
+use msi_forms::answers::Pool;
+use msi_forms::answers::PoolAnswer;
+use msi_forms::answers::Reference;
+use msi_forms::answers::Refused;
+use msi_forms::answers::TakeAnswer;
+use msi_forms::answers::none;
+use msi_forms::answers::refused_count;
+use msi_forms::pools::from_counted;
+use msi_forms::pools::from_dropped;
+use msi_forms::pools::from_loaded;
+use msi_forms::pools::from_made;
+use msi_forms::pools::from_pooled;
+use msi_forms::pools::from_showable;
+use msi_forms::pools::from_taken;
+use msi_forms::pools::from_written;
+use msi_forms::pools::state;
+use stringpool::Showable;
+use stringpool::StringPool;
+use stringpool::StringRef;
+ghost use mathlib.Core.Path.{_≡_};
+ghost use Rattle.common.specs.Answers.{nowhere, outcome};
+ghost use Rattle.stringpool.specs.Pool.{rooms};
+ghost use Rattle.stringpool.specs.Refs.{reference};
+ghost use Rattle.stringpool.specs.Load.{loadOutcome};
+ghost use Rattle.stringpool.specs.Pages.{newAnswer, setPageAnswer};
+ghost use Rattle.stringpool.specs.Show.{showAnswer, refcountAnswer};
+ghost use Rattle.stringpool.specs.Take.{takeOutcome, firstFreeOrEqual};
+ghost use Rattle.stringpool.specs.Drop.{dropOutcome};
+ghost use Rattle.stringpool.specs.Write.{writeOutcome, writeAnswer, poolBytes, dataBytes};
+ghost use Rattle.msi_forms.specs.Answers.{refusalIn, countIn, handed};
+ghost use Rattle.msi_forms.specs.Pools.{stateIn, poolIn, takenIn, referenceIn};
+ghost use Rattle.msi.specs.Texts.{copiedOutcome};
+
+#[no_mangle]
+pub extern "C" fn strandroost_string_ref(number: i32) -> Reference
+    ensures { λ r. ⌜ r ≡ referenceIn (reference nowhere number) ⌝ }
+{
+    from_made(StringRef::new(number))
+}
+
+#[no_mangle]
+pub extern "C" fn strandroost_new(codepage: u32) -> PoolAnswer
+    ensures { λ r. ⌜ r ≡ poolIn (newAnswer codepage) ⌝ }
+{
+    from_pooled(StringPool::new(codepage))
+}
+
+#[no_mangle]
+pub extern "C" fn strandroost_load(
+    pool: &[u8],
+    data: &[u8],
+    lengths: &mut [u32],
+    counts: &mut [u16],
+    text: &mut [u8],
+) -> PoolAnswer
+    ensures { λ r. ⌜ (r, rooms (now (lengths .exit)) (now (counts .exit)) (now (text .exit)))
+        ≡ handed poolIn (loadOutcome (now (pool .entry)) (now («data» .entry)) (rooms (now (lengths .entry)) (now (counts .entry)) (now (text .entry)))) ⌝ }
+{
+    from_loaded(StringPool::load(pool, data, lengths, counts, text))
+}
+
+#[no_mangle]
+pub extern "C" fn strandroost_set_codepage(
+    pool: Pool,
+    lengths: &[u32],
+    counts: &[u16],
+    text: &[u8],
+    codepage: u32,
+) -> PoolAnswer
+    ensures { λ r. ⌜ r ≡ poolIn (setPageAnswer (stateIn pool) (rooms (now (lengths .entry)) (now (counts .entry)) (now (text .entry))) codepage) ⌝ }
+{
+    let was = state(pool);
+    from_pooled(was.set_codepage(lengths, counts, text, codepage))
+}
+
+#[no_mangle]
+pub extern "C" fn strandroost_refcount(
+    pool: Pool,
+    lengths: &[u32],
+    counts: &[u16],
+    text: &[u8],
+    number: i32,
+) -> Count
+    ensures { λ r. ⌜ r ≡ countIn (refcountAnswer (stateIn pool) (rooms (now (lengths .entry)) (now (counts .entry)) (now (text .entry))) number) ⌝ }
+{
+    let was = state(pool);
+    from_counted(was.refcount(lengths, counts, text, number))
+}
+
+// The refusal of showing a reference, or none.
+#[no_mangle]
+pub extern "C" fn strandroost_get_refusal(
+    pool: Pool,
+    lengths: &[u32],
+    counts: &[u16],
+    text: &[u8],
+    number: i32,
+) -> Refused
+    ensures { λ r. ⌜ r ≡ refusalIn (showAnswer (stateIn pool) (rooms (now (lengths .entry)) (now (counts .entry)) (now (text .entry))) number) ⌝ }
+{
+    let was = state(pool);
+    from_showable(was.get_refusal(lengths, counts, text, number))
+}
+
+// A part of the text room, copied to the output whole or not at all.
+pub(crate) fn copied(part: &[u8], out: &mut [u8]) -> Count
+    ensures { λ r. ⌜ (r, now (out .exit)) ≡ handed countIn (outcome (now (out .entry)) (writeAnswer (now (part .entry)) (now (out .entry)))) ⌝ }
+{
+    if out.len() < part.len() {
+        return refused_count(Refusal::OutputRoom);
+    }
+    let value = bytes::copy(part, out);
+    Count {
+        refused: none(),
+        value,
+    }
+}
+
+// The text of a reference. An exported call cannot hand out a part of a lent room, so the text is copied to an output.
+#[no_mangle]
+pub extern "C" fn strandroost_get(
+    pool: Pool,
+    lengths: &[u32],
+    counts: &[u16],
+    text: &[u8],
+    number: i32,
+    out: &mut [u8],
+) -> Count
+    ensures { λ r. ⌜ (r, now (out .exit)) ≡ handed countIn (copiedOutcome (showAnswer (stateIn pool) (rooms (now (lengths .entry)) (now (counts .entry)) (now (text .entry))) number) (now (out .entry))) ⌝ }
+{
+    let was = state(pool);
+    let shown = was.get_refusal(lengths, counts, text, number);
+    match shown {
+        Showable::Refused(why) => refused_count(why),
+        Showable::Yes => copied(was.get(lengths, counts, text, number), out),
+    }
+}
+
+#[no_mangle]
+pub extern "C" fn strandroost_incref(
+    pool: Pool,
+    lengths: &mut [u32],
+    counts: &mut [u16],
+    text: &mut [u8],
+    new: &[u8],
+) -> TakeAnswer
+    ensures { λ r. ⌜ (r, rooms (now (lengths .exit)) (now (counts .exit)) (now (text .exit)))
+        ≡ handed takenIn (takeOutcome firstFreeOrEqual (stateIn pool) (rooms (now (lengths .entry)) (now (counts .entry)) (now (text .entry))) (now (new .entry))) ⌝ }
+{
+    let was = state(pool);
+    from_taken(was.incref(lengths, counts, text, new))
+}
+
+#[no_mangle]
+pub extern "C" fn strandroost_decref(
+    pool: Pool,
+    lengths: &mut [u32],
+    counts: &mut [u16],
+    text: &mut [u8],
+    number: i32,
+) -> PoolAnswer
+    ensures { λ r. ⌜ (r, rooms (now (lengths .exit)) (now (counts .exit)) (now (text .exit)))
+        ≡ handed poolIn (dropOutcome (stateIn pool) (rooms (now (lengths .entry)) (now (counts .entry)) (now (text .entry))) number) ⌝ }
+{
+    let was = state(pool);
+    from_dropped(was.decref(lengths, counts, text, number))
+}
+
+#[no_mangle]
+pub extern "C" fn strandroost_write_pool(
+    pool: Pool,
+    lengths: &[u32],
+    counts: &[u16],
+    text: &[u8],
+    out: &mut [u8],
+) -> Count
+    ensures { λ r. ⌜ (r, now (out .exit))
+        ≡ handed countIn (writeOutcome (stateIn pool) (rooms (now (lengths .entry)) (now (counts .entry)) (now (text .entry)))
+        (poolBytes (stateIn pool) (rooms (now (lengths .entry)) (now (counts .entry)) (now (text .entry)))) (now (out .entry))) ⌝ }
+{
+    let was = state(pool);
+    from_written(was.write_pool(lengths, counts, text, out))
+}
+
+#[no_mangle]
+pub extern "C" fn strandroost_write_data(
+    pool: Pool,
+    lengths: &[u32],
+    counts: &[u16],
+    text: &[u8],
+    out: &mut [u8],
+) -> Count
+    ensures { λ r. ⌜ (r, now (out .exit))
+        ≡ handed countIn (writeOutcome (stateIn pool) (rooms (now (lengths .entry)) (now (counts .entry)) (now (text .entry)))
+        (dataBytes (stateIn pool) (rooms (now (lengths .entry)) (now (counts .entry)) (now (text .entry)))) (now (out .entry))) ⌝ }
+{
+    let was = state(pool);
+    from_written(was.write_data(lengths, counts, text, out))
+}

@@ -1,0 +1,105 @@
+// Values and the string pool: a value's kind and number, its text beside it.
+use crate::pools::copied;
+use msi_forms::answers::CellAnswer;
+use msi_forms::answers::Count;
+use msi_forms::answers::CreateAnswer;
+use msi_forms::answers::Pool;
+use msi_forms::answers::PoolAnswer;
+use msi_forms::answers::refused_count;
+use msi_forms::pools::from_dropped;
+use msi_forms::pools::state;
+use msi_forms::values::from_created;
+use msi_forms::values::from_shown;
+use msi_forms::values::plain_in;
+use msi_forms::values::value_in;
+use value::Shown;
+use value::ValueRef;
+ghost use mathlib.Core.Path.{_≡_};
+ghost use Rattle.stringpool.specs.Pool.{rooms};
+ghost use Rattle.value.specs.Kinds.{kindOf, numberOf};
+ghost use Rattle.value.specs.Pooled.{valueKind, valueNumber, createOutcome, removeOutcome, shownAnswer, textAnswer};
+ghost use Rattle.msi_forms.specs.Answers.{countIn, handed};
+ghost use Rattle.msi_forms.specs.Pools.{stateIn, poolIn};
+ghost use Rattle.msi_forms.specs.Tables.{cellIn};
+ghost use Rattle.msi_forms.specs.Values.{valueIn, plainIn, createdIn};
+ghost use Rattle.msi.specs.Texts.{copiedOutcome};
+
+// A text is taken into the pool; any other value leaves it as it is.
+#[no_mangle]
+pub extern "C" fn strandroost_create(
+    kind: u8,
+    number: i32,
+    new: &[u8],
+    pool: Pool,
+    lengths: &mut [u32],
+    counts: &mut [u16],
+    text: &mut [u8],
+) -> CreateAnswer
+    ensures { λ r. ⌜ (r, rooms (now (lengths .exit)) (now (counts .exit)) (now (text .exit)))
+        ≡ handed createdIn (createOutcome (valueKind (plainIn kind number)) (valueNumber (plainIn kind number)) (now (new .entry)) (stateIn pool)
+        (rooms (now (lengths .entry)) (now (counts .entry)) (now (text .entry)))) ⌝ }
+{
+    let was = state(pool);
+    let value = plain_in(kind, number);
+    from_created(ValueRef::create(value, new, was, lengths, counts, text))
+}
+
+// A reference is dropped; any other value leaves the pool as it is.
+#[no_mangle]
+pub extern "C" fn strandroost_remove(
+    kind: u8,
+    number: i32,
+    pool: Pool,
+    lengths: &mut [u32],
+    counts: &mut [u16],
+    text: &mut [u8],
+) -> PoolAnswer
+    ensures { λ r. ⌜ (r, rooms (now (lengths .exit)) (now (counts .exit)) (now (text .exit)))
+        ≡ handed poolIn (removeOutcome (kindOf (valueIn kind number)) (numberOf (valueIn kind number)) (stateIn pool)
+        (rooms (now (lengths .entry)) (now (counts .entry)) (now (text .entry)))) ⌝ }
+{
+    let was = state(pool);
+    let value = value_in(kind, number);
+    from_dropped(value.remove(was, lengths, counts, text))
+}
+
+// The value that a cell stands for; where it is a text, `strandroost_to_text` copies it.
+#[no_mangle]
+pub extern "C" fn strandroost_to_value(
+    kind: u8,
+    number: i32,
+    pool: Pool,
+    lengths: &[u32],
+    counts: &[u16],
+    text: &[u8],
+) -> CellAnswer
+    ensures { λ r. ⌜ r ≡ cellIn (shownAnswer (kindOf (valueIn kind number)) (numberOf (valueIn kind number)) (stateIn pool)
+        (rooms (now (lengths .entry)) (now (counts .entry)) (now (text .entry)))) ⌝ }
+{
+    let was = state(pool);
+    let value = value_in(kind, number);
+    from_shown(value.to_value(was, lengths, counts, text))
+}
+
+// The text of a cell that holds a reference, none of any other.
+#[no_mangle]
+pub extern "C" fn strandroost_to_text(
+    kind: u8,
+    number: i32,
+    pool: Pool,
+    lengths: &[u32],
+    counts: &[u16],
+    text: &[u8],
+    out: &mut [u8],
+) -> Count
+    ensures { λ r. ⌜ (r, now (out .exit)) ≡ handed countIn (copiedOutcome (textAnswer (kindOf (valueIn kind number)) (numberOf (valueIn kind number)) (stateIn pool)
+        (rooms (now (lengths .entry)) (now (counts .entry)) (now (text .entry)))) (now (out .entry))) ⌝ }
+{
+    let was = state(pool);
+    let value = value_in(kind, number);
+    let shown = value.to_value(was, lengths, counts, text);
+    match shown {
+        Shown::Refused(why) => refused_count(why),
+        Shown::Value(_) => copied(value.to_text(was, lengths, counts, text), out),
+    }
+}

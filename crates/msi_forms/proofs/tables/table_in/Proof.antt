@@ -1,0 +1,81 @@
+use Rattle.column.specs.Columns.{building}
+use mathlib.Core.Path.{_≡_, refl, sym, ap, _∙_}
+use Prim.Native.Nat.{ℕ, _+_, _-_, _≤_, _<_}
+use native.Mathlib.Omega.{arith}
+use lib.ListN.{length, getD, length-map}
+use Rattle.msi_forms.specs.Columns.{columnFrom, builderOut}
+use Rattle.msi_forms.proofs.Mapped.{Mapped, mapped-begin, mapped-step, mapped-done}
+use Rattle.msi_forms.proofs.tables.table_in.Statement.{statement}
+use Rattle.msi_forms.proofs.tables.table_in.Tie as tie
+
+abbrev Inv-loop : tie.InvT-loop
+Inv-loop table parts columns₀ c₀ columns c = (c ≤ 64) × (length parts ≡ 64) × (length columns₀ ≡ 64) × Mapped columnFrom parts columns₀ columns c
+
+abbrev μ-loop : tie.MeasureT-loop
+μ-loop table parts columns₀ c₀ columns c = 64 - c
+
+build-requires : tie.Need-build-requires Inv-loop μ-loop
+build-requires c κs = tt
+
+int16-requires : tie.Need-int16-requires Inv-loop μ-loop
+int16-requires c κs = tt
+
+whole : (c : tie.Start Inv-loop μ-loop) → length (c .args .table .columns) ≡ 64
+whole c = rw length-map at (c .good .0 .1 .1 .0 .1 .0 .1)
+
+loop-holds : tie.Need-loop-holds Inv-loop μ-loop
+loop-holds c =
+    let start = c .before .before .before in
+    (omega arith, whole start, refl, mapped-begin columnFrom (start .args .table .columns) _ (sym (whole start)))
+
+mul-column-in : tie.Need-mul-column-in Inv-loop μ-loop
+mul-column-in c = omega arith
+
+array-copy-out-column-in : tie.Need-array-copy-out-column-in Inv-loop μ-loop
+array-copy-out-column-in c = omega arith
+
+column-in-requires : tie.Need-column-in-requires Inv-loop μ-loop
+column-in-requires c κs = tt
+
+mul-columns : tie.Need-mul-columns Inv-loop μ-loop
+mul-columns c = omega arith
+
+array-set-from-columns : tie.Need-array-set-from-columns Inv-loop μ-loop
+array-set-from-columns c = omega arith
+
+add-c : tie.Need-add-c Inv-loop μ-loop
+add-c c = omega arith
+
+loop-less : tie.Need-loop-less Inv-loop μ-loop
+loop-less c = omega arith
+
+loop-again : tie.Need-loop-again Inv-loop μ-loop
+loop-again c =
+    let l = c .before .before .before .loop in
+    let start = c .before .before .before .before .before .before .before in
+    (omega arith, whole start, refl, mapped-step columnFrom (start .args .table .columns) _ (l .columns) (l .c) (builderOut building) (c .column-in .result) (l .inv .3) (omega (arith, whole start)) (c .column-in .ensures))
+
+returns : tie.Need-returns Inv-loop μ-loop
+returns c =
+    let l = c .before .loop in
+    let start = c .before .before .before .before .before in
+    rw (mapped-done columnFrom (start .args .table .columns) _ (l .columns) (l .c) (l .inv .3) (omega (arith, whole start)) (sym (whole start)))
+
+pub table-in-spec : {M : Type 1} → statement M
+table-in-spec =
+    tie.close
+    (tie.spec
+    Inv-loop
+    μ-loop
+    build-requires
+    int16-requires
+    loop-holds
+    mul-column-in
+    array-copy-out-column-in
+    column-in-requires
+    mul-columns
+    array-set-from-columns
+    add-c
+    loop-less
+    loop-again
+    returns)

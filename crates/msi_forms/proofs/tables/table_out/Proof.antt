@@ -1,0 +1,82 @@
+use Rattle.column.specs.Columns.{building, finished}
+use Rattle.column.specs.declared.column.ColumnType.the-variants.{Int16}
+use mathlib.Core.Path.{_≡_, refl, sym, ap, _∙_}
+use Prim.Native.Nat.{ℕ, _+_, _-_, _≤_, _<_}
+use native.Mathlib.Omega.{arith}
+use lib.ListN.{length, getD, length-map}
+use Rattle.msi_forms.specs.Columns.{partsOf}
+use Rattle.msi_forms.proofs.Mapped.{Mapped, mapped-begin, mapped-step, mapped-done}
+use Rattle.msi_forms.proofs.tables.table_out.Statement.{statement}
+use Rattle.msi_forms.proofs.tables.table_out.Tie as tie
+
+abbrev Inv-loop : tie.InvT-loop
+Inv-loop table columns parts₀ c₀ parts c = (c ≤ 64) × (length columns ≡ 64) × (length parts₀ ≡ 64) × Mapped partsOf columns parts₀ parts c
+
+abbrev μ-loop : tie.MeasureT-loop
+μ-loop table columns parts₀ c₀ parts c = 64 - c
+
+build-requires : tie.Need-build-requires Inv-loop μ-loop
+build-requires c κs = tt
+
+builder-out-requires : tie.Need-builder-out-requires Inv-loop μ-loop
+builder-out-requires c κs = tt
+
+whole : (c : tie.Start Inv-loop μ-loop) → length (c .args .table .columns) ≡ 64
+whole c = rw length-map at (c .good .0 .1 .1 .0 .1 .0 .1)
+
+loop-holds : tie.Need-loop-holds Inv-loop μ-loop
+loop-holds c =
+    let start = c .before .before .before in
+    (omega arith, whole start, refl, mapped-begin partsOf (start .args .table .columns) _ (sym (whole start)))
+
+mul-parts-of : tie.Need-mul-parts-of Inv-loop μ-loop
+mul-parts-of c = omega arith
+
+array-copy-out-parts-of : tie.Need-array-copy-out-parts-of Inv-loop μ-loop
+array-copy-out-parts-of c = omega arith
+
+parts-of-requires : tie.Need-parts-of-requires Inv-loop μ-loop
+parts-of-requires c κs = tt
+
+mul-parts : tie.Need-mul-parts Inv-loop μ-loop
+mul-parts c = omega arith
+
+array-set-from-parts : tie.Need-array-set-from-parts Inv-loop μ-loop
+array-set-from-parts c = omega arith
+
+add-c : tie.Need-add-c Inv-loop μ-loop
+add-c c = omega arith
+
+loop-less : tie.Need-loop-less Inv-loop μ-loop
+loop-less c = omega arith
+
+loop-again : tie.Need-loop-again Inv-loop μ-loop
+loop-again c =
+    let l = c .before .before .before .loop in
+    let start = c .before .before .before .before .before .before .before in
+    (omega arith, whole start, refl, mapped-step partsOf (start .args .table .columns) _ (l .parts) (l .c) (finished building Int16) (c .parts-of .result) (l .inv .3) (omega (arith, whole start)) (c .parts-of .ensures))
+
+returns : tie.Need-returns Inv-loop μ-loop
+returns c =
+    let l = c .before .loop in
+    let start = c .before .before .before .before .before in
+    rw (mapped-done partsOf (start .args .table .columns) _ (l .parts) (l .c) (l .inv .3) (omega (arith, whole start)) (sym (whole start)))
+
+pub table-out-spec : {M : Type 1} → statement M
+table-out-spec =
+    tie.close
+    (tie.spec
+    Inv-loop
+    μ-loop
+    build-requires
+    builder-out-requires
+    loop-holds
+    mul-parts-of
+    array-copy-out-parts-of
+    parts-of-requires
+    mul-parts
+    array-set-from-parts
+    add-c
+    loop-less
+    loop-again
+    returns)

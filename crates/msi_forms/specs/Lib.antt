@@ -1,0 +1,5 @@
+pub mod Answers
+pub mod Columns
+pub mod Pools
+pub mod Tables
+pub mod Values

@@ -1,0 +1,42 @@
+-- A layout as C has it, and the answers of the calls on tables.
+use Prim.Native.Nat.{ℕ}
+use mathlib.Core.Bool.{Bool, true, false}
+use mathlib.Core.List.{map}
+use lib.IntN.{ℤ, pos}
+use Rattle.common.specs.Answers.{Answer, gives, refused}
+use Rattle.table.specs.declared.layout.Table.{Table}
+use Rattle.rows.specs.Next.{Next, another, none}
+use Rattle.msi_forms.specs.Answers.{refusalIn, givenOr}
+use Rattle.msi_forms.specs.Columns.{columnFrom, partsOf}
+use Rattle.msi_forms.specs.declared.answers.CellAnswer.{CellAnswer}
+use Rattle.msi_forms.specs.declared.answers.TableParts.{TableParts}
+use Rattle.msi_forms.specs.declared.answers.TableAnswer.{TableAnswer}
+use Rattle.msi_forms.specs.declared.answers.StepAnswer.{StepAnswer}
+
+-- "A layout of at most 64 columns is handed over whole"
+abbrev pub tableIn : TableParts → Table
+tableIn t = record { columns = map columnFrom (t .columns); count = t .count; «long_string_refs» = t .«long_string_refs» }
+
+abbrev pub tableOut : Table → TableParts
+tableOut t = record { columns = map partsOf (t .columns); count = t .count; «long_string_refs» = t .«long_string_refs» }
+
+-- the layout stands beside the refusal
+abbrev pub laidIn : Answer (Unit {0}) × Table → TableAnswer
+laidIn x = record { refused = refusalIn (x .0); table = tableOut (x .1) }
+
+abbrev pub cellIn : Answer (ℕ × ℤ) → CellAnswer
+cellIn a = record { refused = refusalIn a; kind = givenOr (0, pos 0) a .0; number = givenOr (0, pos 0) a .1 }
+
+-- a step of the row reader: whether there was a cell, the cell, and the place after it
+abbrev pub isCell : Next → Bool
+isCell (another x) = true
+isCell none = false
+
+abbrev pub cellOf : Next → ℕ × ℤ
+cellOf (another x) = x
+cellOf none = (0, pos 0)
+
+abbrev pub stepIn : Answer Next × ℕ → StepAnswer
+stepIn x =
+    let next = givenOr none (x .0) in
+    record { refused = refusalIn (x .0); at = x .1; found = isCell next; kind = cellOf next .0; number = cellOf next .1 }

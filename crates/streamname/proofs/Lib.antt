@@ -2,5 +2,4 @@ pub mod LetterLaws
 pub mod EncodeLaws
 pub mod DecodeLaws
 pub mod RoundTrip
-pub mod Cases
 pub mod Promises

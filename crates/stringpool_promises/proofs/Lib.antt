@@ -1,5 +1,4 @@
 pub mod Back
-pub mod Cases
 pub mod Choosers
 pub mod Kept
 pub mod Law

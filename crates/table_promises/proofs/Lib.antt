@@ -4,4 +4,3 @@ pub mod Agree
 pub mod Pieces
 pub mod Rewritten
 pub mod Back
-pub mod Examples

@@ -1,0 +1,21 @@
+use mathlib.Core.Path.{_∙_, ap}
+use lib.IntN.{pos}
+use Rattle.column.specs.declared.column.ColumnBuilder.{ColumnBuilder}
+use Rattle.column.specs.Columns.{bitsColumn}
+use Rattle.cases.specs.Shown.{typeIn}
+use Rattle.cases.proofs.Cases.{says}
+use borrow.Author.Needs.{needs}
+use Rattle.cases.proofs.tables.case_h.Statement.{statement}
+use Rattle.cases.proofs.tables.case_h.Tie as tie
+
+build-requires : tie.Need-build-requires
+build-requires c κs = search needs
+
+with-bitfield-requires : tie.Need-with-bitfield-requires
+with-bitfield-requires c κs = search needs
+
+returns : tie.Need-returns
+returns c = ap typeIn (c .with-bitfield .ensures ∙ ap (λ (b : ColumnBuilder). bitsColumn b 0 (pos 0x2900)) (c .before .build .ensures)) ∙ says 7
+
+pub case-h-spec : {M : Type 1} → statement M
+case-h-spec = tie.close (tie.spec build-requires with-bitfield-requires returns)

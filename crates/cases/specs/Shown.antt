@@ -1,0 +1,88 @@
+-- What a case of document 01's proved table asks, and what it shows, by the definitions of the public calls.
+use Prim.Native.Nat.{ℕ}
+use mathlib.Core.Bool.{Bool, false}
+use mathlib.Core.List.{List, [], _∷_, map}
+use lib.IntN.{ℤ}
+use lib.ListN.{take, replicate}
+use Rattle.common.specs.Answers.{Answer, gives, refused, Place}
+use Rattle.common.specs.Lists.{from}
+use Rattle.streamname.specs.Calls.{encodeOutcome}
+use Rattle.stringpool.specs.declared.pool.StringPool.{StringPool}
+use Rattle.stringpool.specs.Pool.{Rooms, rooms}
+use Rattle.stringpool.specs.Refs.{referenceTo}
+use Rattle.stringpool.specs.Load.{loadOutcome}
+use Rattle.stringpool.specs.Show.{showAnswer, refcountAnswer}
+use Rattle.stringpool.specs.Take.{firstFreeOrEqual, takeOutcome}
+use Rattle.column.specs.declared.column.ColumnType.{ColumnType}
+use Rattle.column.specs.declared.column.Column.{Column}
+use Rattle.column.specs.Columns.{building, bitsColumn}
+use Rattle.table.specs.Layout.{bitfieldsOutcome}
+use Rattle.table.specs.Writing.{Cells, writeRowsOutcome}
+
+pub data Asked : Type 0 where
+  -- the stored form of a name, a table's or a plain one
+  name : List ℕ → Bool → Asked
+  -- rows of cells, written to a table of columns with these bits and short references
+  written : List ℤ → ℕ → Cells → Asked
+  -- the type of a column with these bits
+  bits : ℤ → Asked
+  -- a pool stream and a data stream, loaded
+  loaded : List ℕ → List ℕ → Asked
+  -- a take of a text on what these streams load
+  taken : List ℕ → List ℕ → List ℕ → Asked
+
+-- of each reference in use, from 1 on, the text and the count
+abbrev pub Entries : Type 0
+Entries = List (Answer (List ℕ) × Answer ℕ)
+
+pub data Shown : Type 0 where
+  units : List ℕ → Shown
+  bytes : List ℕ → Shown
+  type : ColumnType → Shown
+  pool : ℕ → Entries → Shown
+  answers : ℤ → Entries → Shown
+  refuses : ℕ → Place → Shown
+
+-- what a call wrote to its output
+abbrev pub unitsIn : Answer ℕ × List ℕ → Shown
+unitsIn (gives n, out) = units (take n out)
+unitsIn (refused n at, out) = refuses n at
+
+abbrev pub bytesIn : Answer ℕ × List ℕ → Shown
+bytesIn (gives n, out) = bytes (take n out)
+bytesIn (refused n at, out) = refuses n at
+
+abbrev pub typeIn : Answer Column → Shown
+typeIn (gives x) = type (x .coltype)
+typeIn (refused n at) = refuses n at
+
+abbrev pub entriesIn : StringPool → Rooms → Entries
+entriesIn p w = map (λ (k : ℕ). (showAnswer p w (referenceTo k), refcountAnswer p w (referenceTo k))) (from 0 (p .«num_strings»))
+
+abbrev pub poolIn : Answer StringPool × Rooms → Shown
+poolIn (gives p, w) = pool (p .codepage) (entriesIn p w)
+poolIn (refused n at, w) = refuses n at
+
+abbrev pub takenIn : Answer (ℤ × StringPool) × Rooms → Shown
+takenIn (gives x, w) = answers (x .0) (entriesIn (x .1) w)
+takenIn (refused n at, w) = refuses n at
+
+-- "On k": a take on what a load answered and left
+abbrev pub takeOn : List ℕ → Answer StringPool × Rooms → Shown
+takeOn text (gives p, w) = takenIn (takeOutcome firstFreeOrEqual p w text)
+takeOn text (refused n at, w) = refuses n at
+
+-- rooms for four entries and six bytes, and outputs of eight, that no call has touched yet
+abbrev pub room : Rooms
+room = rooms (replicate 4 0) (replicate 4 0) (replicate 6 0)
+
+abbrev pub output : List ℕ
+output = replicate 8 0
+
+-- what the public calls answer and leave
+abbrev pub answered : Asked → Shown
+answered (name letters table) = unitsIn (encodeOutcome letters table output)
+answered (written fields rows cells) = bytesIn (writeRowsOutcome (bitfieldsOutcome fields false .1) rows cells output)
+answered (bits n) = typeIn (bitsColumn building 0 n)
+answered (loaded stream texts) = poolIn (loadOutcome stream texts room)
+answered (taken stream texts text) = takeOn text (loadOutcome stream texts room)

@@ -1,0 +1,22 @@
+// The thirteen cases of document 01's proved table, run through the public calls. Each answers what specs/Cases.antt says of it.
+mod names;
+mod pools;
+mod tables;
+
+pub use crate::names::Units;
+pub use crate::names::case_a;
+pub use crate::names::case_b;
+pub use crate::names::case_c;
+pub use crate::names::case_d;
+pub use crate::pools::Pool;
+pub use crate::pools::Take;
+pub use crate::pools::case_k;
+pub use crate::pools::case_l;
+pub use crate::tables::Bytes;
+pub use crate::tables::case_e;
+pub use crate::tables::case_f;
+pub use crate::tables::case_g;
+pub use crate::tables::case_h;
+pub use crate::tables::case_i;
+pub use crate::tables::case_j;
+pub use crate::tables::case_m;

@@ -1,0 +1,102 @@
+// Cases k and l: a pool, and a take on it.
+use stringpool::Loaded;
+use stringpool::StringPool;
+use stringpool::Taken;
+ghost use mathlib.Core.Path.{_≡_};
+ghost use Rattle.stringpool.specs.Pool.{rooms};
+ghost use Rattle.stringpool.specs.Load.{loadedAs, loadOutcome};
+ghost use Rattle.stringpool.specs.Take.{takenAs};
+ghost use Rattle.cases.specs.Shown.{room, poolIn, takenIn, takeOn};
+ghost use Rattle.cases.specs.Cases as cases;
+
+// What `load` answers, and the rooms afterwards.
+pub struct Pool {
+    pub answer: Loaded,
+    pub lengths: [u32; 4],
+    pub counts: [u16; 4],
+    pub text: [u8; 6],
+}
+
+// What `incref` answers, and the rooms afterwards.
+pub struct Take {
+    pub answer: Taken,
+    pub lengths: [u32; 4],
+    pub counts: [u16; 4],
+    pub text: [u8; 6],
+}
+
+pub fn case_k() -> Pool
+    ensures { λ r. ⌜ poolIn (loadedAs (r .answer), rooms (r .lengths) (r .counts) (r .text)) ≡ cases.k .said ⌝ }
+{
+    load_k()
+}
+
+pub fn case_l() -> Take
+    ensures { λ r. ⌜ takenIn (takenAs (r .answer), rooms (r .lengths) (r .counts) (r .text)) ≡ cases.l .said ⌝ }
+{
+    taken_on(load_k(), b"")
+}
+
+fn load_k() -> Pool
+    ensures { λ r. ⌜ (loadedAs (r .answer), rooms (r .lengths) (r .counts) (r .text)) ≡ loadOutcome cases.kPool cases.kData room ⌝ }
+{
+    let pool = [
+        0xE4u8,
+        4,
+        0,
+        0,
+        4,
+        0,
+        2,
+        0,
+        0,
+        0,
+        0,
+        0,
+        0,
+        0,
+        1,
+        0,
+        0,
+        0,
+        0,
+        0,
+    ];
+    let mut lengths = [0u32; 4];
+    let mut counts = [0u16; 4];
+    let mut text = [0u8; 6];
+    let answer = StringPool::load(&pool, b"Name", &mut lengths, &mut counts, &mut text);
+    Pool {
+        answer,
+        lengths,
+        counts,
+        text,
+    }
+}
+
+fn taken_on(pool: Pool, new: &[u8]) -> Take
+    ensures { λ r. ⌜ takenIn (takenAs (r .answer), rooms (r .lengths) (r .counts) (r .text))
+        ≡ takeOn (now (new .entry)) (loadedAs (pool .answer), rooms (pool .lengths) (pool .counts) (pool .text)) ⌝ }
+{
+    let mut lengths = pool.lengths;
+    let mut counts = pool.counts;
+    let mut text = pool.text;
+    let before = pool.answer;
+    match before {
+        Loaded::Ready(state) => {
+            let answer = state.incref(&mut lengths, &mut counts, &mut text, new);
+            Take {
+                answer,
+                lengths,
+                counts,
+                text,
+            }
+        }
+        Loaded::Refused(why) => Take {
+            answer: Taken::Refused(why),
+            lengths,
+            counts,
+            text,
+        },
+    }
+}

@@ -3,7 +3,7 @@ use mathlib.Core.Path.{_≡_, refl, sym, _∙_, ap}
 use mathlib.Core.Bool.{Bool}
 use mathlib.Core.List.{List, [], _∷_, _++_}
 use Prim.Native.Nat.{ℕ, zero, suc, _+_, _*_, _<_, _≤_}
-use native.Mathlib.Nat.{mul-add, mul-zero, add-zero, mul-le-mul-left, not-suc-le-zero, le-of-suc-le-suc}
+use native.Mathlib.Nat.{add-mul, mul-add, mul-zero, add-zero, mul-le-mul-left, not-suc-le-zero, le-of-suc-le-suc}
 use native.Mathlib.Numerals.{add-one}
 use native.Mathlib.Omega.{arith}
 use lib.IntN.{ℤ, pos}
@@ -134,5 +134,10 @@ part-number (suc w) k s at i h =
 pub cell-part : (f : CellForm) (s : List ℕ) (at k : ℕ) → formWidth f ≤ k → numberIn (formWidth f) (take k (drop at s)) 0 ≡ numberIn (formWidth f) s at
 cell-part f s at k h = part-number (formWidth f) k s at 0 (omega arith) ∙ ap (numberIn (formWidth f) s) (add-zero at)
 
-pub form-cell : (ts : List ColumnType) (long : Bool) (rows : ℕ) (s : List ℕ) (r c : ℕ) → formCell (formFor (typeAt ts c) long) s (rows * rowSize (take c ts) long) r ≡ cellAt ts long rows s r c
-form-cell ts long rows s r c = rw (form-width long (typeAt ts c), form-unstored long (typeAt ts c))
+-- the cell of a row, counted from `first` on, of a column that is read from there
+pub form-cell : (ts : List ColumnType) (long : Bool) (rows first : ℕ) (s : List ℕ) (r c : ℕ)
+    → formCell (formFor (typeAt ts c) long) s (rows * rowSize (take c ts) long + first * width (typeAt ts c) long) r ≡ cellAt ts long rows s (first + r) c
+form-cell ts long rows first s r c =
+    let w = width (typeAt ts c) long in
+    let e : rows * rowSize (take c ts) long + first * w + r * w ≡ rows * rowSize (take c ts) long + (first + r) * w = omega (arith, add-mul first r w) in
+    rw (← form-width long (typeAt ts c), e, form-unstored long (typeAt ts c))

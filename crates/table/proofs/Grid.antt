@@ -1,18 +1,19 @@
 -- Stores at every step-th place, and a table that is filled column by column. Assumes nothing.
 use mathlib.Core.Path.{_≡_, refl, sym, _∙_, ap}
 use mathlib.Core.Logic.{_⊎_, ⊎-elim}
-use mathlib.Core.List.{List, [], _∷_, _++_, map}
+use mathlib.Core.List.{List, [], _∷_, _++_, map, append-assoc}
 use Prim.Native.Nat.{ℕ, zero, suc, _+_, _-_, _*_, _/_, _%_, _<_, _≤_}
-use native.Mathlib.Nat.{suc-mul, zero-mul, mul-zero, add-zero, zero-add, mul-le-mul-right, not-suc-le-zero, le-of-suc-le-suc, div-add-mod', mod-lt, div-lt-iff-lt-mul}
+use native.Mathlib.Nat.{add-mul, sub-zero, suc-mul, zero-mul, mul-zero, add-zero, zero-add, mul-le-mul-right, not-suc-le-zero, le-of-suc-le-suc, div-add-mod', mod-lt, div-lt-iff-lt-mul}
 use native.Mathlib.Omega.{arith}
 use borrow.Rule.Slice.PartMut.{putMid}
-use lib.ListN.{length, getD, take, drop, set, length-set, length-map, length-append, List·getD-append}
+use lib.ListN.{length, getD, take, drop, set, length-set, length-map, length-append, length-drop, List·getD-append}
 use lib.Seq.{getD-set-same, getD-set-other, getD-append-add, ext-getD, length-take-le}
-use Rattle.common.specs.Lists.{_over_, joined, from}
+use Rattle.common.specs.Lists.{_over_, overAt, from}
 use Rattle.common.proofs.Parts.{over-all, exact-over}
+use Rattle.common.proofs.Writing.{Writing, begin, rooms, steps-front, done-front}
 use Rattle.column.proofs.Halves.{lt-or-le}
 use Rattle.table.specs.Rows.{rowByRow}
-use Rattle.table.specs.inner.Columns.{strided}
+use Rattle.table.specs.inner.Columns.{strided, rowsFrom}
 use Rattle.table.proofs.Each.{from-next, from-done, length-from}
 use Rattle.table.proofs.Layouts.{next-le}
 
@@ -32,37 +33,45 @@ module _ {A : Type 0} (g : ℕ → A) (d : A) where
 -- ---- row by row
 
 module _ {A : Type 0} (g : ℕ → ℕ → A) (d : A) (columns : ℕ) where
-  rows-from : ℕ → ℕ → List A
-  rows-from k n = joined (map (λ (r : ℕ). map (g r) (from 0 columns)) (from k n))
-
-  length-rows : (k n : ℕ) → length (rows-from k n) ≡ n * columns
-  unfolding rows-from
+  pub length-rows : (k n : ℕ) → length (rowsFrom g columns k n) ≡ n * columns
   length-rows k zero = sym (zero-mul columns)
   length-rows k (suc n) = rw (length-append, length-of (g k) d 0 columns, length-rows (suc k) n) (omega (arith, suc-mul n columns))
 
-  rows-at : (k n r c : ℕ) → r < n → c < columns → getD (rows-from k n) (c + r * columns) d ≡ g (k + r) c
-  unfolding rows-from
+  rows-at : (k n r c : ℕ) → r < n → c < columns → getD (rowsFrom g columns k n) (c + r * columns) d ≡ g (k + r) c
   rows-at k zero r c h p = absurd (not-suc-le-zero h)
   rows-at k (suc n) zero c h p =
       let e : c + 0 * columns ≡ c = omega (arith, zero-mul columns) in
       let z : 0 + c ≡ c = omega arith in
       let l = length-of (g k) d 0 columns in
-      rw (e, add-zero, List·getD-append (map (g k) (from 0 columns)) (rows-from (suc k) n) d c (omega arith), of-at (g k) d 0 columns c p, z)
+      rw (e, add-zero, List·getD-append (map (g k) (from 0 columns)) (rowsFrom g columns (suc k) n) d c (omega arith), of-at (g k) d 0 columns c p, z)
   rows-at k (suc n) (suc r) c h p =
       let l = length-of (g k) d 0 columns in
       let e : c + suc r * columns ≡ length (map (g k) (from 0 columns)) + (c + r * columns) = omega (arith, suc-mul r columns) in
       let z : k + suc r ≡ suc k + r = omega arith in
-      ap (λ (i : ℕ). getD (map (g k) (from 0 columns) ++ rows-from (suc k) n) i d) e
-      ∙ getD-append-add (map (g k) (from 0 columns)) (rows-from (suc k) n) (c + r * columns) d
+      ap (λ (i : ℕ). getD (map (g k) (from 0 columns) ++ rowsFrom g columns (suc k) n) i d) e
+      ∙ getD-append-add (map (g k) (from 0 columns)) (rowsFrom g columns (suc k) n) (c + r * columns) d
       ∙ rw z (rows-at (suc k) n r c (le-of-suc-le-suc h) p)
 
   pub length-grid : (rows : ℕ) → length (rowByRow g rows columns) ≡ rows * columns
-  unfolding rows-from
   length-grid rows = length-rows 0 rows
 
   pub grid-at : (rows r c : ℕ) → r < rows → c < columns → getD (rowByRow g rows columns) (c + r * columns) d ≡ g r c
-  unfolding rows-from
   grid-at rows r c h p = rows-at 0 rows r c h p ∙ ap (λ (x : ℕ). g x c) (zero-add r)
+
+-- rows after others, and rows counted from the first of them
+module _ {A : Type 0} (g : ℕ → ℕ → A) (columns : ℕ) where
+  pub rows-split : (k m n : ℕ) → rowsFrom g columns k (m + n) ≡ rowsFrom g columns k m ++ rowsFrom g columns (k + m) n
+  rows-split k zero n = rw (zero-add n, add-zero k)
+  rows-split k (suc m) n =
+      let e : suc m + n ≡ suc (m + n) = omega arith in
+      let f : k + suc m ≡ suc k + m = omega arith in
+      rw (e, f, rows-split (suc k) m n, append-assoc)
+
+  pub rows-shift : (k j n : ℕ) → rowsFrom (λ r. g (k + r)) columns j n ≡ rowsFrom g columns (k + j) n
+  rows-shift k j zero = refl
+  rows-shift k j (suc n) =
+      let e : k + suc j ≡ suc (k + j) = omega arith in
+      rw (rows-shift k (suc j) n, e)
 
 -- ---- stores at i, i + step, i + 2 * step, ..
 
@@ -155,13 +164,43 @@ module _ {A : Type 0} (d : A) (g : ℕ → ℕ → A) (rows step : ℕ) where
       (lt-or-le 0 step))
 
 -- a part of an output, lent and filled
-pub filled-part : {A : Type 0} (x out last : List A) (k n : ℕ) → last ≡ x → length x ≡ n → k ≡ n → n ≤ length out → putMid 0 k out last ≡ x over out
-filled-part x out last k n e l q h =
-    let m : length (take k (drop 0 out)) ≡ k = length-take-le k (drop 0 out) (omega arith) in
-    ap (putMid 0 k out) (e ∙ sym (over-all x (take k (drop 0 out)) (omega arith))) ∙ exact-over x out 0 k (omega arith) (omega arith)
+pub filled-part : {A : Type 0} (x out last : List A) (at k : ℕ) → last ≡ x → length x ≡ k → at + k ≤ length out → putMid at k out last ≡ overAt at x out
+filled-part x out last at k e l h =
+    let m : length (take k (drop at out)) ≡ k = length-take-le k (drop at out) (simp length-drop (omega arith)) in
+    ap (putMid at k out) (e ∙ sym (over-all x (take k (drop at out)) (omega arith))) ∙ exact-over x out at k h l
 
 -- grids that agree at every place
 pub grid-same : {A : Type 0} (g h : ℕ → ℕ → A) (d : A) (rows columns : ℕ) → ((r c : ℕ) → r < rows → c < columns → g r c ≡ h r c) → rowByRow g rows columns ≡ rowByRow h rows columns
 grid-same g h d rows columns e =
     filled-done d h rows columns columns (rowByRow g rows columns) (omega arith)
     (record { sized = length-grid g d columns rows; right = λ r k p q. grid-at g d columns rows r k p q ∙ e r k p q })
+
+-- ---- bands of rows, written one after the other: those before `first` are written over a room, the others are left
+
+module _ {A : Type 0} (g : ℕ → ℕ → A) (d : A) (columns rows : ℕ) where
+  abbrev pub Banded : List A → ℕ → List A → Type 0
+  Banded before first out = Writing before 0 (rowByRow g rows columns) (rowsFrom g columns first (rows - first)) out (first * columns)
+
+  pub band-begin : (before : List A) → rows * columns ≤ length before → Banded before 0 before
+  band-begin before h =
+      let l = length-grid g d columns rows in
+      rw (sub-zero, zero-mul) (begin (omega arith))
+
+  pub band-done : (before : List A) (first : ℕ) (out : List A) → rows ≤ first → Banded before first out → out ≡ rowByRow g rows columns over before
+  band-done before first out h w = done-front w (rw (from-done first rows h))
+
+  pub band-turn : (before out last : List A) (first some k : ℕ) → first + some ≤ rows → k ≡ some * columns → last ≡ rowsFrom g columns first some
+      → Banded before first out → Banded before (first + some) (putMid (first * columns) k out last)
+  band-turn before out last first some k h e f w =
+      let x = rowsFrom g columns first some in
+      let more = rowsFrom g columns (first + some) (rows - (first + some)) in
+      let left : rows - first ≡ some + (rows - (first + some)) = omega arith in
+      let next : rowsFrom g columns first (rows - first) ≡ x ++ more = rw left (rows-split g columns first some (rows - (first + some))) in
+      let long : length x ≡ some * columns = length-rows g d columns first some in
+      let put : putMid (first * columns) k out last ≡ overAt (first * columns) x out = filled-part x out last (first * columns) k f (omega arith) (omega (arith, rooms w x more next)) in
+      let end : (first + some) * columns ≡ first * columns + length x = omega (arith, add-mul first some columns) in
+      rw (put, end) (steps-front w x more next)
+
+-- the cells of a band are among those of all
+pub band-within : (first some rows columns : ℕ) → first + some ≤ rows → first * columns + some * columns ≤ rows * columns
+band-within first some rows columns h = omega (arith, add-mul first some columns, mul-le-mul-right columns h)

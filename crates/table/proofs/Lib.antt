@@ -4,3 +4,4 @@ pub mod Grid
 pub mod Column
 pub mod Answers
 pub mod Bits
+pub mod Limits

@@ -16,17 +16,26 @@ ghost use mathlib.Core.List.{map};
 ghost use Prim.Native.Nat.{_+_, _*_, _/_, _<_, _≤_};
 ghost use lib.ListN.{length};
 ghost use Rattle.common.specs.Choice.{if_then_else_, _=?_};
-ghost use Rattle.common.specs.Lists.{from};
+ghost use Rattle.common.specs.Lists.{from, _over_};
 ghost use Rattle.value.specs.Kinds.{cellAs};
 ghost use Rattle.table.specs.Layout.{typesOf};
 ghost use Rattle.table.specs.Rows.{rowSize, cellAt, rowByRow};
 ghost use Rattle.table.specs.Reading.{numRowsAnswer, readCellAnswer, readRowsOutcome, countedAs, cellReadAs};
 ghost use Rattle.table.specs.inner.Layout.{Sound, layoutOf};
-ghost use Rattle.table.specs.inner.Columns.{formWidth, strided, formCell, Held};
+ghost use Rattle.table.specs.inner.Columns.{formWidth, strided, formCell, Held, rowsFrom};
 
 pub enum CellRead {
     Value(ValueRef),
     Refused(Refusal),
+}
+
+// How many rows are read together: their cells fit into the nearest memory of a processor.
+const NEAR: usize = 1024;
+
+// Some rows of a table, from `first` on.
+pub(crate) struct Band {
+    pub(crate) first: usize,
+    pub(crate) rows: usize,
 }
 
 impl Table {
@@ -82,13 +91,7 @@ impl Table {
                 if numbers.len() < cells {
                     return Counted::Refused(Refusal::OutputRoom);
                 }
-                read_columns(
-                    self,
-                    rows,
-                    stream,
-                    &mut kinds[0..cells],
-                    &mut numbers[0..cells],
-                );
+                read_bands(self, rows, stream, kinds, numbers);
                 Counted::Count(cells)
             }
         }
@@ -115,20 +118,62 @@ fn cell_in(table: Table, rows: usize, row: usize, column: usize, stream: &[u8]) 
     layout::form_at(table, column).read_value(stream, rows * start + row * width)
 }
 
-// Reads the columns one after the other.
-fn read_columns(table: Table, rows: usize, stream: &[u8], kinds: &mut [u8], numbers: &mut [i32])
-    requires { ⌜ Sound table × (rows ≤ 65536) × (rows * rowSize (typesOf table) (table .«long_string_refs») ≤ length (now stream)) × (length (now kinds) ≡ rows * table .count) × (length (now numbers) ≡ rows * table .count) ⌝ }
-    ensures { λ r. ⌜ (now (kinds .exit) ≡ rowByRow (λ i c. cellAt (typesOf table) (table .«long_string_refs») rows (now (stream .entry)) i c .0) rows (table .count)) × (now (numbers .exit) ≡ rowByRow (λ i c. cellAt (typesOf table) (table .«long_string_refs») rows (now (stream .entry)) i c .1) rows (table .count)) ⌝ }
+// Reads the rows band after band: the cells of a band stay near while its columns are read one after the other.
+fn read_bands(table: Table, rows: usize, stream: &[u8], kinds: &mut [u8], numbers: &mut [i32])
+    requires { ⌜ Sound table × (rows ≤ 65536) × (rows * rowSize (typesOf table) (table .«long_string_refs») ≤ length (now stream)) × (rows * table .count ≤ length (now kinds)) × (rows * table .count ≤ length (now numbers)) ⌝ }
+    ensures { λ r. ⌜ (now (kinds .exit) ≡ rowByRow (λ i c. cellAt (typesOf table) (table .«long_string_refs») rows (now (stream .entry)) i c .0) rows (table .count) over now (kinds .entry)) × (now (numbers .exit) ≡ rowByRow (λ i c. cellAt (typesOf table) (table .«long_string_refs») rows (now (stream .entry)) i c .1) rows (table .count) over now (numbers .entry)) ⌝ }
 {
     let count = table.count;
     let arrays = layout::layout_of(table);
+    let mut first = 0;
+    while first < rows {
+        let some = near(rows - first);
+        let band = Band { first, rows: some };
+        let at = first * count;
+        let end = at + some * count;
+        read_columns(
+            table,
+            arrays,
+            rows,
+            band,
+            stream,
+            &mut kinds[at..end],
+            &mut numbers[at..end],
+        );
+        first += some;
+    }
+}
+
+// How many of the rows that are left are read together.
+fn near(left: usize) -> usize
+    ensures { λ r. ⌜ (r ≤ left) × (0 < left → 0 < r) ⌝ }
+{
+    if left < NEAR { left } else { NEAR }
+}
+
+// Reads the columns of a band one after the other.
+fn read_columns(
+    table: Table,
+    arrays: Layout,
+    rows: usize,
+    band: Band,
+    stream: &[u8],
+    kinds: &mut [u8],
+    numbers: &mut [i32],
+)
+    requires { ⌜ Sound table × (arrays ≡ layoutOf table) × (rows ≤ 65536) × (band .first + band .rows ≤ rows) × (rows * rowSize (typesOf table) (table .«long_string_refs») ≤ length (now stream)) × (length (now kinds) ≡ band .rows * table .count) × (length (now numbers) ≡ band .rows * table .count) ⌝ }
+    ensures { λ r. ⌜ (now (kinds .exit) ≡ rowsFrom (λ i c. cellAt (typesOf table) (table .«long_string_refs») rows (now (stream .entry)) i c .0) (table .count) (band .first) (band .rows)) × (now (numbers .exit) ≡ rowsFrom (λ i c. cellAt (typesOf table) (table .«long_string_refs») rows (now (stream .entry)) i c .1) (table .count) (band .first) (band .rows)) ⌝ }
+{
+    let count = table.count;
+    let first = band.first;
+    let some = band.rows;
     let mut c = 0;
     while c < count {
-        let start = rows * arrays.starts[c];
+        let start = rows * arrays.starts[c] + first * arrays.widths[c];
         let run = Stride {
             column: c,
             step: count,
-            rows,
+            rows: some,
         };
         read_column(
             layout::form_at(table, c),

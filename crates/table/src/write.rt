@@ -14,13 +14,16 @@ ghost use mathlib.Core.Path.{_≡_};
 ghost use Prim.Native.Nat.{_+_, _*_, _<_, _≤_};
 ghost use lib.ListN.{length};
 ghost use Rattle.common.specs.Lists.{_over_, from};
-ghost use Rattle.common.specs.Answers.{gives, refusalOf, each};
+ghost use Rattle.common.specs.Answers.{cell, gives, refusalOf, each};
 ghost use Rattle.table.specs.Layout.{typesOf};
 ghost use Rattle.table.specs.Rows.{rowSize};
 ghost use Rattle.table.specs.Reading.{countedAs};
 ghost use Rattle.table.specs.Writing.{columnBytes, tableBytes, writeRowsOutcome};
 ghost use Rattle.table.specs.inner.Layout.{verdictAs, Sound};
 ghost use Rattle.table.specs.inner.Columns.{formBytes, plain, Handed, Fine};
+ghost use Rattle.table.specs.inner.Limits.{limitsOf, inLimits};
+ghost use Rattle.column.specs.Cells.{stored};
+ghost use Rattle.column.specs.inner.Forms.{typeIn, longIn};
 
 impl Table {
     // Cells are handed over row by row.
@@ -76,24 +79,12 @@ fn judge_columns(table: Table, rows: usize, kinds: &[u8], numbers: &[i32]) -> Ve
     Verdict::Fine
 }
 
-// Settles the form once for the whole column: each call is compiled for its form alone.
+// Judges the cells of a column in order. What its form holds is looked up once: a cell within the limits is fine.
 fn judge_column(form: CellForm, kinds: &[u8], numbers: &[i32], run: Stride) -> Verdict
     requires { ⌜ Handed (record { kinds = now kinds; numbers = now numbers }) run ⌝ }
     ensures { λ r. ⌜ verdictAs r ≡ refusalOf (each (formBytes form (record { kinds = now (kinds .entry); numbers = now (numbers .entry) }) run) (from 0 (run .rows))) ⌝ }
 {
-    match form {
-        CellForm::Int16 => judge_cells(CellForm::Int16, kinds, numbers, run),
-        CellForm::Int32 => judge_cells(CellForm::Int32, kinds, numbers, run),
-        CellForm::ShortRef => judge_cells(CellForm::ShortRef, kinds, numbers, run),
-        CellForm::LongRef => judge_cells(CellForm::LongRef, kinds, numbers, run),
-        CellForm::Binary => judge_cells(CellForm::Binary, kinds, numbers, run),
-    }
-}
-
-fn judge_cells(form: CellForm, kinds: &[u8], numbers: &[i32], run: Stride) -> Verdict
-    requires { ⌜ Handed (record { kinds = now kinds; numbers = now numbers }) run ⌝ }
-    ensures { λ r. ⌜ verdictAs r ≡ refusalOf (each (formBytes form (record { kinds = now (kinds .entry); numbers = now (numbers .entry) }) run) (from 0 (run .rows))) ⌝ }
-{
+    let limits = limits_of(form);
     let column = run.column;
     let step = run.step;
     let rows = run.rows;
@@ -102,14 +93,85 @@ fn judge_cells(form: CellForm, kinds: &[u8], numbers: &[i32], run: Stride) -> Ve
     while row < rows {
         let kind = kinds[at];
         let number = numbers[at];
-        let stored = form.stored(Cell::new(kind, number), row, column);
-        if let Stored::Refused(refusal) = stored {
+        let verdict = judge_cell(form, limits, kind, number, row, column);
+        if let Verdict::Refused(refusal) = verdict {
             return Verdict::Refused(refusal);
         }
         at += step;
         row += 1;
     }
     Verdict::Fine
+}
+
+// What a form's cells hold: a kind with the numbers from `low` to `high`, and a kind whose number is not looked at.
+pub(crate) struct Limits {
+    pub(crate) kind: u8,
+    pub(crate) low: i32,
+    pub(crate) high: i32,
+    pub(crate) plain: u8,
+}
+
+fn limits_of(form: CellForm) -> Limits
+    ensures { λ r. ⌜ r ≡ limitsOf form ⌝ }
+{
+    match form {
+        CellForm::Int16 => between(1, -32_768, 32_767, 0),
+        CellForm::Int32 => between(1, -2_147_483_648, 2_147_483_647, 0),
+        CellForm::ShortRef => between(2, 1, 65_535, 0),
+        CellForm::LongRef => between(2, 1, 16_777_215, 0),
+        CellForm::Binary => between(3, 0, 0, 3),
+    }
+}
+
+fn between(kind: u8, low: i32, high: i32, plain: u8) -> Limits
+    ensures { λ r. ⌜ r ≡ record { kind = kind; low = low; high = high; plain = plain } ⌝ }
+{
+    Limits {
+        kind,
+        low,
+        high,
+        plain,
+    }
+}
+
+fn within(limits: Limits, kind: u8, number: i32) -> bool
+    ensures { λ r. ⌜ r ≡ inLimits limits kind number ⌝ }
+{
+    if kind == limits.plain {
+        return true;
+    }
+    if kind != limits.kind {
+        return false;
+    }
+    if number < limits.low {
+        return false;
+    }
+    if limits.high < number {
+        return false;
+    }
+    true
+}
+
+// A cell past the limits is judged in full.
+fn judge_cell(
+    form: CellForm,
+    limits: Limits,
+    kind: u8,
+    number: i32,
+    row: usize,
+    column: usize,
+) -> Verdict
+    requires { ⌜ limits ≡ limitsOf form ⌝ }
+    ensures { λ r. ⌜ verdictAs r ≡ refusalOf (stored (typeIn form) (longIn form) (cell row column) kind number) ⌝ }
+{
+    if within(limits, kind, number) {
+        return Verdict::Fine;
+    }
+    let judged = form.stored(Cell::new(kind, number), row, column);
+    match judged {
+        Stored::Number(_) => Verdict::Fine,
+        Stored::Refused(refusal) => Verdict::Refused(refusal),
+    }
 }
 
 // Writes the columns one after the other, each to its own stretch.

@@ -24,10 +24,10 @@ decoded-bound-requires : tie.Need-decoded-bound-requires
 decoded-bound-requires c κs = search needs
 
 returns-2 : tie.Need-returns-2
-returns-2 c = decode-long (now (c .before .before .before .before .before .before .args .stored)) (now (c .before .before .before .before .before .before .args .out)) (c .before .before .before .if1 .left) (omega (arith, measured (c .before) .1 .past (c .if2 .taken)))
+returns-2 c = decode-long (now (c .before .before .before .before .before .before .args .stored)) (now (c .before .before .before .before .before .before .args .out)) (c .before .before .before .if1 .left) (omega (arith, measured (c .before) .1 .past (omega arith)))
 
 returns-3 : tie.Need-returns-3
-returns-3 c = decode-short (now (c .before .before .before .before .before .before .before .args .stored)) (now (c .before .before .before .before .before .before .before .args .out)) (c .before .before .before .before .if1 .left) (omega (arith, measured (c .before .before) .1 .above)) (omega (arith, measured (c .before .before) .0 .past (c .if3 .taken)))
+returns-3 c = decode-short (now (c .before .before .before .before .before .before .before .args .stored)) (now (c .before .before .before .before .before .before .before .args .out)) (c .before .before .before .before .if1 .left) (omega (arith, measured (c .before .before) .1 .above)) (omega (arith, measured (c .before .before) .0 .past (omega arith)))
 
 write-decoded-requires : tie.Need-write-decoded-requires
 write-decoded-requires c κs = omega (arith, c .before .before .before .decoded-bound .ensures .0 .above)

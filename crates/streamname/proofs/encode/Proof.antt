@@ -30,7 +30,7 @@ encoded-bound-requires : tie.Need-encoded-bound-requires
 encoded-bound-requires c κs = search needs
 
 returns-2 : tie.Need-returns-2
-returns-2 c = encode-short (Name (c .before .before .before .before .before)) (c .before .before .before .before .before .args .is-table) (Out (c .before .before .before .before .before)) (c .before .before .if1 .left) (omega (arith, c .before .encoded-bound .ensures .past (c .if2 .taken)))
+returns-2 c = encode-short (Name (c .before .before .before .before .before)) (c .before .before .before .before .before .args .is-table) (Out (c .before .before .before .before .before)) (c .before .before .if1 .left) (omega (arith, c .before .encoded-bound .ensures .past (omega arith)))
 
 slice-write-out : tie.Need-slice-write-out
 slice-write-out c = omega (arith, table-fits c)

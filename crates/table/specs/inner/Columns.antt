@@ -45,6 +45,10 @@ pub record Fine (f : CellForm) (cells : Cells) (run : Stride) (out : List ℕ) :
 
 -- ---- reading
 
+-- the cells of n rows from k on, row by row
+abbrev pub rowsFrom : {A : Type 0} → (ℕ → ℕ → A) → ℕ → ℕ → ℕ → List A
+rowsFrom g columns k n = joined (map (λ (r : ℕ). map (g r) (from 0 columns)) (from k n))
+
 -- stores at i, i + step, i + 2 * step, ..
 abbrev pub strided : {A : Type 0} → ℕ → ℕ → List A → List A → List A
 strided i step [] l = l

@@ -1,69 +1,139 @@
--- `write::judge_column` meets its contract: in each arm the form is known. Assumes nothing.
+use Rattle.column.specs.Cells.{stored}
+-- `write::judge_column` meets its contract: what the cells that are left say, is what all say. Assumes nothing.
+use Rattle.table.proofs.Column.{judged-cell}
+use Rattle.table.proofs.Layouts.{next-le, next-is}
+use Rattle.table.proofs.Each.{each-turn, each-stop, each-end}
+use Rattle.table.specs.inner.Columns.{formBytes}
+use Rattle.table.specs.inner.Layout.{verdictAs}
+use Rattle.table.specs.Writing.{Cells}
+use Rattle.column.specs.inner.Forms.{typeIn, longIn}
+use Rattle.common.specs.Answers.{refusalOf, each, cell}
+use Rattle.common.specs.Lists.{from}
+use mir.Facts.{toZ-ofZ}
+use mir.Syntax.{w32}
+use lib.ListN.{length, getD}
+use lib.IntN.{ℤ, pos}
+use native.Mathlib.Omega.{arith}
+use native.Mathlib.Nat.{sub-zero, zero-mul}
+use Prim.Native.Nat.{ℕ, _+_, _-_, _*_, _≤_, _<_, _^_}
+use mathlib.Core.Path.{_≡_, refl, sym, ap, _∙_}
 use borrow.Author.Needs.{needs}
 use Rattle.table.proofs.write.judge_column.Statement.{statement}
 use Rattle.table.proofs.write.judge_column.Tie as tie
 
-enum-told : tie.Need-enum-told
+abbrev Inv-loop : tie.InvT-loop
+Inv-loop form kinds numbers limits column step rows at₀ row₀ at row =
+    (row ≤ rows) × (at ≡ row * step + column)
+    × (refusalOf (each (formBytes form (record { kinds = kinds; numbers = numbers }) (record { column = column; step = step; rows = rows })) (from row (rows - row)))
+    ≡ refusalOf (each (formBytes form (record { kinds = kinds; numbers = numbers }) (record { column = column; step = step; rows = rows })) (from 0 rows)))
+
+abbrev μ-loop : tie.MeasureT-loop
+μ-loop form kinds numbers limits column step rows at₀ row₀ at row = rows - row
+
+abbrev cellsOf : tie.Start Inv-loop μ-loop → Cells
+cellsOf c = record { kinds = c .args .kinds .now; numbers = c .args .numbers .now }
+
+cell-in : (c : tie.In-loop Inv-loop μ-loop) → let s = c .before .before .before .before in (c .before .loop .at < length (s .args .kinds .now)) × (c .before .loop .at + s .args .run .step < 2 ^ 64)
+cell-in c =
+    let s = c .before .before .before .before in
+    let n = next-le (c .before .loop .row) (s .args .run .rows) (s .args .run .step) (c .loop-test .taken) in
+    let k = s .pre .kinds in
+    let b = s .pre .below in
+    (omega (arith, n), omega (arith, n, s .good .1 .1 .0))
+
+-- what the cell of this turn says
+said : (c : tie.After-judge-cell Inv-loop μ-loop)
+    → let s = c .before .before .before .before .before .before .before in refusalOf (formBytes (s .args .form) (cellsOf s) (s .args .run) (c .before .before .before .before .loop .row)) ≡ verdictAs (c .judge-cell .result)
+said c =
+    let s = c .before .before .before .before .before .before .before in
+    let a = s .args in
+    let l = c .before .before .before .before .loop in
+    let i = l .row * a .run .step + a .run .column in
+    let k = getD (a .kinds .now) i 0 in
+    let z = getD (a .numbers .now) i (pos 0) in
+    let same : getD (a .kinds .now) (l .at) 0 ≡ k = ap (λ (j : ℕ). getD (a .kinds .now) j 0) (l .inv .1) in
+    let same-number : getD (a .numbers .now) (l .at) (pos 0) ≡ z = ap (λ (j : ℕ). getD (a .numbers .now) j (pos 0)) (l .inv .1) in
+    let at = toZ-ofZ {w = w32} {z = getD (a .numbers .now) (l .at) (pos 0)} (record { sfits = c .before .number .given }) in
+    let e : verdictAs (c .judge-cell .result) ≡ refusalOf (stored (typeIn (a .form)) (longIn (a .form)) (cell (l .row) (a .run .column)) k z) = rw (at, same, same-number) at (c .judge-cell .ensures) in
+    judged-cell (a .form) (cellsOf s) (a .run) (l .row) ∙ sym e
+
+limits-of-requires : tie.Need-limits-of-requires Inv-loop μ-loop
+limits-of-requires c κs = tt
+
+loop-holds : tie.Need-loop-holds Inv-loop μ-loop
+loop-holds c = (omega arith, rw zero-mul (omega arith), rw sub-zero)
+
+shared-slice-read-kind : tie.Need-shared-slice-read-kind Inv-loop μ-loop
+shared-slice-read-kind c = cell-in (c .before) .0
+
+mul-number : tie.Need-mul-number Inv-loop μ-loop
+mul-number c =
+    let h : c .before .before .loop .at < length (c .before .before .before .before .before .args .numbers .now) = rw (c .before .before .before .before .before .pre .numbers) (rw (c .before .before .before .before .before .pre .kinds) at (cell-in (c .before) .0)) in
+    search needs
+
+shared-slice-copy-out-number : tie.Need-shared-slice-copy-out-number Inv-loop μ-loop
+shared-slice-copy-out-number c = rw (c .before .before .before .before .before .pre .numbers) (rw (c .before .before .before .before .before .pre .kinds) at (cell-in (c .before) .0))
+
+judge-cell-requires : tie.Need-judge-cell-requires Inv-loop μ-loop
+judge-cell-requires c κs = c .before .before .before .before .limits-of .ensures
+
+enum-known-verdict : tie.Need-enum-known-verdict Inv-loop μ-loop
+enum-known-verdict c = search needs
+
+returns : tie.Need-returns Inv-loop μ-loop
+returns c =
+    let s = c .before .before .before .before .before .before .before .before .before .before in
+    let l = c .before .before .before .before .before .before .before .loop in
+    each-stop (formBytes (s .args .form) (cellsOf s) (s .args .run)) (l .row) (s .args .run .rows) (c .before .before .before .before .before .before .loop-test .taken) _ _
+    (said (c .before .before .before) ∙ ap verdictAs (c .before .verdict .given .1))
+    ∙ l .inv .2
+
+enum-told : tie.Need-enum-told Inv-loop μ-loop
 enum-told c = search needs
 
-judge-cells-requires : tie.Need-judge-cells-requires
-judge-cells-requires c κs = search needs
+add-at : tie.Need-add-at Inv-loop μ-loop
+add-at c = record { fits = cell-in (c .before .before .before .before .before) .1 }
 
-enum-told-2 : tie.Need-enum-told-2
-enum-told-2 c = search needs
+add-row : tie.Need-add-row Inv-loop μ-loop
+add-row c = search needs
 
-judge-cells-requires-2 : tie.Need-judge-cells-requires-2
-judge-cells-requires-2 c κs = search needs
+loop-less : tie.Need-loop-less Inv-loop μ-loop
+loop-less c = search needs
 
-enum-told-3 : tie.Need-enum-told-3
-enum-told-3 c = search needs
+loop-again : tie.Need-loop-again Inv-loop μ-loop
+loop-again c =
+    let s = c .before .before .before .before .before .before .before .before .before in
+    let l = c .before .before .before .before .before .before .loop in (
+      omega arith,
+      rw next-is (omega arith),
+      each-turn (formBytes (s .args .form) (cellsOf s) (s .args .run)) (l .row) (s .args .run .rows) (c .before .before .before .before .before .loop-test .taken)
+          (said (c .before .before) ∙ ap verdictAs (c .enum-told .given .1))
+          ∙ l .inv .2,
+    )
 
-judge-cells-requires-3 : tie.Need-judge-cells-requires-3
-judge-cells-requires-3 c κs = search needs
-
-enum-told-4 : tie.Need-enum-told-4
-enum-told-4 c = search needs
-
-judge-cells-requires-4 : tie.Need-judge-cells-requires-4
-judge-cells-requires-4 c κs = search needs
-
-enum-told-5 : tie.Need-enum-told-5
-enum-told-5 c = search needs
-
-judge-cells-requires-5 : tie.Need-judge-cells-requires-5
-judge-cells-requires-5 c κs = search needs
-
-returns : tie.Need-returns
-returns c = rw (c .before .enum-told .given .1) (c .judge-cells .ensures)
-
-returns-2 : tie.Need-returns-2
-returns-2 c = rw (c .before .enum-told2 .given .1) (c .judge-cells2 .ensures)
-
-returns-3 : tie.Need-returns-3
-returns-3 c = rw (c .before .enum-told3 .given .1) (c .judge-cells3 .ensures)
-
-returns-4 : tie.Need-returns-4
-returns-4 c = rw (c .before .enum-told4 .given .1) (c .judge-cells4 .ensures)
-
-returns-5 : tie.Need-returns-5
-returns-5 c = rw (c .before .enum-told5 .given .1) (c .judge-cells5 .ensures)
+returns-2 : tie.Need-returns-2 Inv-loop μ-loop
+returns-2 c =
+    let s = c .before .before .before .before in
+    let l = c .before .loop in
+    each-end (formBytes (s .args .form) (cellsOf s) (s .args .run)) (l .row) (s .args .run .rows) (c .loop-test .left) ∙ l .inv .2
 
 pub judge-column-spec : {M : Type 1} → statement M
 judge-column-spec =
     tie.close
     (tie.spec
-    enum-told
-    judge-cells-requires
-    enum-told-2
-    judge-cells-requires-2
-    enum-told-3
-    judge-cells-requires-3
-    enum-told-4
-    judge-cells-requires-4
-    enum-told-5
-    judge-cells-requires-5
+    Inv-loop
+    μ-loop
+    limits-of-requires
+    loop-holds
+    shared-slice-read-kind
+    mul-number
+    shared-slice-copy-out-number
+    judge-cell-requires
+    enum-known-verdict
     returns
-    returns-2
-    returns-3
-    returns-4
-    returns-5)
+    enum-told
+    add-at
+    add-row
+    loop-less
+    loop-again
+    returns-2)

@@ -1,19 +1,10 @@
 -- `Table::read_rows` meets its contract. Assumes nothing.
 use Rattle.table.proofs.Answers.{Found, found, holds}
-use Rattle.table.proofs.Grid.{length-grid, filled-part}
-use Rattle.table.specs.Rows.{cellAt, rowByRow}
-use Rattle.table.specs.Layout.{typesOf}
-use Rattle.common.specs.Lists.{_over_}
-use lib.Seq.{length-take-le}
-use lib.ListN.{length, take, drop}
-use lib.IntN.{ℤ, pos}
-use borrow.Rule.Slice.PartMut.{putMid, same-len-mid}
 use borrow.Author.Tests.{lt-ltb, le-ltb}
 use native.Mathlib.Omega.{arith}
 use native.Mathlib.Nat.{mul-le-mul-right}
-use Prim.Native.Nat.{ℕ, _+_, _-_, _*_, _≤_, _<_}
-use mathlib.Core.List.{List}
-use mathlib.Core.Path.{_≡_, refl, sym, ap, _∙_}
+use Prim.Native.Nat.{_*_, _≤_}
+use mathlib.Core.Path.{sym}
 use borrow.Author.Needs.{needs}
 use Rattle.table.proofs.layout.Table.read_rows.Statement.{statement}
 use Rattle.table.proofs.layout.Table.read_rows.Tie as tie
@@ -48,29 +39,10 @@ returns-2 c =
     let e = rw (c .before .before .before .before .counted2 .given .1) at (c .before .before .before .before .before .before .num-rows .ensures) in
     rw (sym e, lt-ltb _ _ (c .if2 .taken), le-ltb _ _ (c .before .if1 .left))
 
-sub-read-columns : tie.Need-sub-read-columns
-sub-read-columns c = omega arith
-
-part-read-columns-start : tie.Need-part-read-columns-start
-part-read-columns-start c = omega arith
-
-part-read-columns-end : tie.Need-part-read-columns-end
-part-read-columns-end c = omega arith
-
-sub-read-columns-2 : tie.Need-sub-read-columns-2
-sub-read-columns-2 c = omega arith
-
-part-read-columns-start-2 : tie.Need-part-read-columns-start-2
-part-read-columns-start-2 c = omega arith
-
-part-read-columns-end-2 : tie.Need-part-read-columns-end-2
-part-read-columns-end-2 c = omega arith
-
-read-columns-requires : tie.Need-read-columns-requires
-read-columns-requires c κs =
+read-bands-requires : tie.Need-read-bands-requires
+read-bands-requires c κs =
     let f = at-found (c .before .before .before .before .before) in
-    let cells = c .before .before .before .before .before .before .counted2 .given .0 .0 * c .before .before .before .before .before .before .before .before .before .before .before .args .self .count in
-    (f .sound, f .few, holds f, length-take-le (cells - 0) (drop 0 (c .before .before .before .before .before .before .before .before .before .before .before .args .kinds .now)) (omega arith) ∙ omega arith, length-take-le (cells - 0) (drop 0 (c .before .before .before .before .before .before .before .before .before .before .before .args .numbers .now)) (omega arith) ∙ omega arith)
+    (f .sound, f .few, holds f, c .before .before .before .if1 .left, c .before .before .if2 .left)
 
 returns-3 : tie.Need-returns-3
 returns-3 c =
@@ -78,22 +50,16 @@ returns-3 c =
     rw (sym e)
 
 same-length : tie.Need-same-length
-same-length c = same-len-mid 0 (c .before .before .before .before .before .before .before .before .before .before .counted2 .given .0 .0 * c .before .before .before .before .before .before .before .before .before .before .before .before .before .before .before .args .self .count - 0) (c .before .before .before .before .before .before .before .before .before .before .before .before .before .before .before .args .kinds .now) (c .before .before .before .read-columns .last .1 .1 .1 .0) (c .before .before .before .read-columns .kept .1 .1 .1 .0)
+same-length c = search needs
 
 same-length-2 : tie.Need-same-length-2
-same-length-2 c = same-len-mid 0 (c .before .before .before .before .before .before .before .before .before .before .counted2 .given .0 .0 * c .before .before .before .before .before .before .before .before .before .before .before .before .before .before .before .args .self .count - 0) (c .before .before .before .before .before .before .before .before .before .before .before .before .before .before .before .args .numbers .now) (c .before .before .before .read-columns .last .1 .1 .1 .1 .0) (c .before .before .before .read-columns .kept .1 .1 .1 .1 .0)
+same-length-2 c = search needs
 
 returns-4 : tie.Need-returns-4
 returns-4 c =
-    let a = c .before .before .before .before .before .before .before .before .before .before .before .before .before .before .before .args in
-    let t = a .self in
-    let rows = c .before .before .before .before .before .before .before .before .before .before .counted2 .given .0 .0 in
-    let cell = cellAt (typesOf t) (t .«long_string_refs») rows (a .stream .now) in
     let e = rw (c .before .before .before .before .before .before .before .before .before .before .counted2 .given .1) at (c .before .before .before .before .before .before .before .before .before .before .before .before .num-rows .ensures) in
-    let k : rows * t .count - 0 ≡ rows * t .count = omega arith in
-    let kinds = filled-part (rowByRow (λ i j. cell i j .0) rows (t .count)) (a .kinds .now) (c .before .before .before .read-columns .last .1 .1 .1 .0) (rows * t .count - 0) (rows * t .count) (c .before .before .before .read-columns .ensures .0) (length-grid (λ i j. cell i j .0) 0 (t .count) rows) k (c .before .before .before .before .before .before .before .if1 .left) in
-    let numbers = filled-part (rowByRow (λ i j. cell i j .1) rows (t .count)) (a .numbers .now) (c .before .before .before .read-columns .last .1 .1 .1 .1 .0) (rows * t .count - 0) (rows * t .count) (c .before .before .before .read-columns .ensures .1) (length-grid (λ i j. cell i j .1) (pos 0) (t .count) rows) k (c .before .before .before .before .before .before .if2 .left) in
-    rw (sym e, le-ltb _ _ (c .before .before .before .before .before .before .before .if1 .left), le-ltb _ _ (c .before .before .before .before .before .before .if2 .left), kinds, numbers)
+    let put = c .before .before .before .read-bands .ensures in
+    rw (sym e, le-ltb _ _ (c .before .before .before .before .before .before .before .if1 .left), le-ltb _ _ (c .before .before .before .before .before .before .if2 .left), put .0, put .1)
 
 pub read-rows-spec : {M : Type 1} → statement M
 read-rows-spec =
@@ -105,13 +71,7 @@ read-rows-spec =
     mul-cells
     returns
     returns-2
-    sub-read-columns
-    part-read-columns-start
-    part-read-columns-end
-    sub-read-columns-2
-    part-read-columns-start-2
-    part-read-columns-end-2
-    read-columns-requires
+    read-bands-requires
     returns-3
     same-length
     same-length-2

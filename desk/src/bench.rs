@@ -1,5 +1,5 @@
 //! `desk/bench`: the crate and the port on the same inputs, in one program and one run. Prints a line for each measurement: what,
-//! at what size, the crate's nanoseconds and the port's, the best of several rounds each.
+//! at what size, the crate's nanoseconds and the port's, the best of many rounds each.
 //! Buffers: the crate makes its own in every call, as its signatures ask; the port's rooms and outputs are lent, and have been
 //! written before. Inputs lie in memory before the clock starts.
 #![allow(dead_code, unused_macros)]
@@ -29,25 +29,42 @@ use internal::value::ValueRef;
 use std::hint::black_box;
 use std::io::Cursor;
 use std::rc::Rc;
-use std::time::Instant;
+use std::time::{Duration, Instant};
 use strandroost::calls::{self, Layout, Rooms, RoomsMut, State};
 
+/// The fewest rounds of a measurement, the time on the clock that is enough, and the time in all after which no round begins.
 const ROUNDS: usize = 5;
+const LONG_ENOUGH: Duration = Duration::from_millis(50);
+const TOO_LONG: Duration = Duration::from_millis(300);
 const BITS: [i32; 6] = [0x2d48, 0x502, 0x104, 0xd00, 0x1d00, 0x1502];
 const ROW_BYTES: usize = 14;
 
-/// Nanoseconds of a call: the best of several rounds, each of so many calls, with what `before` makes outside the clock.
-fn timed<T>(calls: usize, mut before: impl FnMut() -> T, mut call: impl FnMut(T)) -> f64 {
-    let mut best = f64::MAX;
-    for _ in 0..ROUNDS {
+/// Nanoseconds of a call: the best of the rounds that fit into `LONG_ENOUGH` on the clock, each of so many calls. `reset` begins
+/// a round and `before` makes what a call is handed, both outside the clock.
+fn timed_on<S, T>(
+    state: &mut S,
+    calls: usize,
+    mut reset: impl FnMut(&mut S),
+    mut before: impl FnMut() -> T,
+    mut call: impl FnMut(&mut S, T),
+) -> f64 {
+    let (mut best, mut spent, mut rounds, began) = (Duration::MAX, Duration::ZERO, 0, Instant::now());
+    while rounds < ROUNDS || spent < LONG_ENOUGH && began.elapsed() < TOO_LONG {
+        reset(state);
         let inputs: Vec<T> = (0..calls).map(|_| before()).collect();
         let clock = Instant::now();
         for input in inputs {
-            call(input);
+            call(state, input);
         }
-        best = best.min(clock.elapsed().as_nanos() as f64 / calls as f64);
+        let round = clock.elapsed();
+        (best, spent, rounds) = (best.min(round), spent + round, rounds + 1);
     }
-    best
+    best.as_nanos() as f64 / calls as f64
+}
+
+/// The same of calls that leave nothing behind.
+fn timed<T>(calls: usize, before: impl FnMut() -> T, mut call: impl FnMut(T)) -> f64 {
+    timed_on(&mut (), calls, |()| (), before, |(), input| call(input))
 }
 
 fn show(what: &str, size: usize, krate: f64, port: f64) {
@@ -159,29 +176,46 @@ impl Pools {
         self.out = out;
     }
 
-    fn bench_hit(&mut self, what: &str, entries: usize, text: &str) {
-        let krate = timed(20, || text.to_string(), |text| drop(black_box(self.krate.incref(text))));
-        let port = timed(20, || (), |()| self.port_take(text.as_bytes()));
-        show(what, entries, krate, port);
+    /// Both pools as they were loaded.
+    fn reload(&mut self) {
+        self.krate = crate_load(&self.stream, &self.data);
+        self.state = self.port_load();
     }
 
-    /// A text that is not there: an entry is added. The pool grows by 100 entries on each side.
+    /// A call on each side's pool, which is loaded again for each round.
+    fn compare<T>(
+        &mut self,
+        what: &str,
+        size: usize,
+        calls: usize,
+        ready: impl Fn(&mut Pools),
+        mut inputs: impl FnMut() -> T,
+        krate: impl Fn(&mut StringPool, T),
+        port: impl Fn(&mut Pools, T),
+    ) {
+        let fresh = |pools: &mut Pools| {
+            pools.reload();
+            ready(pools);
+        };
+        let crate_time = timed_on(self, calls, fresh, &mut inputs, |pools, input| krate(&mut pools.krate, input));
+        let port_time = timed_on(self, calls, fresh, &mut inputs, |pools, input| port(pools, input));
+        show(what, size, crate_time, port_time);
+    }
+
+    fn bench_hit(&mut self, what: &str, entries: usize, text: &str) {
+        let krate = |pool: &mut StringPool, text: String| drop(black_box(pool.incref(text)));
+        self.compare(what, entries, 20, |_| (), || text.to_string(), krate, |pools, text| pools.port_take(text.as_bytes()));
+    }
+
+    /// Texts that are not there: an entry is added for each.
     fn bench_miss(&mut self, what: &str, entries: usize) {
-        self.lengths.resize(entries + 1024, 0);
-        self.counts.resize(entries + 1024, 0);
-        let mut next = entries;
-        let mut fresh = || {
+        let mut next = 0;
+        let fresh = || {
             next += 1;
-            text_at(900_000 + next, false)
+            text_at(900_000 + next % 90_000, false)
         };
-        let krate = timed(10, &mut fresh, |text| drop(black_box(self.krate.incref(text))));
-        let mut next = entries;
-        let mut fresh = || {
-            next += 1;
-            text_at(900_000 + next, false)
-        };
-        let port = timed(10, &mut fresh, |text| self.port_take(text.as_bytes()));
-        show(what, entries, krate, port);
+        let krate = |pool: &mut StringPool, text: String| drop(black_box(pool.incref(text)));
+        self.compare(what, entries, 10, |_| (), fresh, krate, |pools, text| pools.port_take(text.as_bytes()));
     }
 
     fn bench_numbers(&mut self, entries: usize) {
@@ -191,30 +225,23 @@ impl Pools {
         let port = timed(20, || (), |()| drop(black_box(calls::get(self.state, self.rooms(), middle as i32, &mut out))));
         self.out = out;
         show("get", entries, krate, port);
-        // The last entry was taken 100 times over by the hits, so its count stays above 0.
-        let krate = timed(10, || (), |()| self.krate.decref(crate_ref(entries)));
-        let port = timed(10, || (), |()| self.port_drop(entries));
-        show("drop, text stays", entries, krate, port);
-        // Entries with one reference: the text goes, and the tail moves.
-        let mut at = middle;
-        let krate = timed(
-            10,
-            || {
-                at += 1;
-                at
-            },
-            |number| self.krate.decref(crate_ref(number)),
-        );
-        let mut at = middle;
-        let port = timed(
-            10,
-            || {
-                at += 1;
-                at
-            },
-            |number| self.port_drop(number),
-        );
-        show("drop, text goes", entries, krate, port);
+        // The last entry has references to spare, so its text stays.
+        let last = text_at(entries - 1, true);
+        let spare = |pools: &mut Pools| {
+            for _ in 0..10 {
+                pools.krate.incref(last.clone());
+                pools.port_take(last.as_bytes());
+            }
+        };
+        let krate = |pool: &mut StringPool, number: usize| pool.decref(crate_ref(number));
+        self.compare("drop, text stays", entries, 10, spare, || entries, krate, Pools::port_drop);
+        // Entries with one reference: the text goes, and the tail moves. Ten places after the middle, over and over.
+        let mut at = 0;
+        let next = || {
+            at = at % 10 + 1;
+            middle + at
+        };
+        self.compare("drop, text goes", entries, 10, |_| (), next, krate, Pools::port_drop);
     }
 }
 

@@ -1,7 +1,8 @@
 # A picture of how the calls grow: both axes logarithmic, the crate dashed and the port drawn through; the best time of each.
 function log10(x) { return log(x) / log(10) }
 function x(size) { return 70 + (log10(size) - 3) * 300 }
-function y(time) { return 420 - (log10(time) - 2) * 60 }
+function y(time) { return 420 - log10(time) * 45 }
+function told(e) { return e < 3 ? 10 ^ e " ns" : e < 6 ? 10 ^ (e - 3) " µs" : 10 ^ (e - 6) " ms" }
 {
     key = $1 "\t" $2
     if (!(key in crate) || $3 < crate[key]) crate[key] = $3
@@ -19,7 +20,7 @@ END {
     wanted["load"] = wanted["take, last of equal lengths"] = wanted["take, last of mixed lengths"] = wanted["get"] = wanted["read_rows"] = wanted["write_rows"] = 1
     print "<svg xmlns=\"http://www.w3.org/2000/svg\" width=\"860\" height=\"470\" font-family=\"sans-serif\" font-size=\"12\">"
     print "<rect width=\"860\" height=\"470\" fill=\"white\"/>"
-    for (e = 2; e <= 8; e++) printf "<line x1=\"70\" x2=\"640\" y1=\"%d\" y2=\"%d\" stroke=\"#ddd\"/><text x=\"62\" y=\"%d\" text-anchor=\"end\">%s</text>\n", y(10 ^ e), y(10 ^ e), y(10 ^ e) + 4, e < 3 ? "0.1 µs" : e < 6 ? 10 ^ (e - 3) " µs" : 10 ^ (e - 6) " ms"
+    for (e = 0; e <= 8; e++) printf "<line x1=\"70\" x2=\"640\" y1=\"%d\" y2=\"%d\" stroke=\"#ddd\"/><text x=\"62\" y=\"%d\" text-anchor=\"end\">%s</text>\n", y(10 ^ e), y(10 ^ e), y(10 ^ e) + 4, told(e)
     for (e = 3; e <= 4; e++) printf "<line x1=\"%d\" x2=\"%d\" y1=\"60\" y2=\"420\" stroke=\"#ddd\"/><text x=\"%d\" y=\"440\" text-anchor=\"middle\">%d</text>\n", x(10 ^ e), x(10 ^ e), x(10 ^ e), 10 ^ e
     printf "<text x=\"%d\" y=\"440\" text-anchor=\"middle\">60000</text>\n", x(60000)
     print "<text x=\"355\" y=\"460\" text-anchor=\"middle\">entries of the pool, or rows of the table</text>"

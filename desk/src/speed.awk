@@ -1,5 +1,6 @@
 # The measurements of several programs as a table: times in microseconds, ratios as ranges.
-function time(t) { return t < 10000 ? sprintf("%.2f", t / 1000) : t < 100000 ? sprintf("%.1f", t / 1000) : sprintf("%.0f", t / 1000) }
+function time(t) { return sprintf(t < 1000000 ? "%.3g" : "%.0f", t / 1000) }
+function share(r) { return sprintf(r < 100 ? "%.2f" : "%.0f", r) }
 function range(low, high) { return low == high ? low : low " to " high }
 {
     key = $1 "\t" $2
@@ -18,6 +19,6 @@ END {
     for (i = 1; i <= n; i++) {
         split(order[i], part, "\t")
         k = order[i]
-        printf "| %s | %d | %s | %s | %s |\n", part[1], part[2], range(time(crate[k]), time(slow[k])), range(time(port[k]), time(late[k])), range(sprintf("%.2f", low[k]), sprintf("%.2f", high[k]))
+        printf "| %s | %d | %s | %s | %s |\n", part[1], part[2], range(time(crate[k]), time(slow[k])), range(time(port[k]), time(late[k])), range(share(low[k]), share(high[k]))
     }
 }

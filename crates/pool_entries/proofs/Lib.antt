@@ -1,0 +1,5 @@
+pub mod Bytes
+pub mod Entries
+pub mod Look
+pub mod Sound
+pub mod Sums

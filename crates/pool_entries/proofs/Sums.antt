@@ -1,0 +1,50 @@
+-- Laws of the passes over the lengths.
+use mathlib.Core.Path.{_≡_, refl, sym, ap, _∙_}
+use Prim.Native.Nat.{ℕ, zero, suc, _+_, _-_, _*_, _%_, _≤_, _<_, _^_}
+use native.Mathlib.Numerals.{add-one}
+use native.Mathlib.Omega.{arith}
+use mathlib.Core.Bool.{Bool, true, false}
+use mathlib.Core.List.{List}
+use lib.ListN.{length, take, getD}
+use lib.Bits.{bitOr, bitAnd, or-add-and, and-le-l, and-le-r}
+use lib.Dec.{ltb}
+use borrow.Author.Tests.{ltb-true, ltb-false}
+use Rattle.common.specs.Lists.{total}
+use Rattle.common.proofs.Sums.{total-suc}
+use Rattle.pool_entries.specs.inner.Adding.{Short, Tallied}
+
+pub short-next : (ls : List ℕ) (from i : ℕ) → Short ls from i → getD ls i 0 ≤ 65535 → Short ls from (i + 1)
+short-next ls from i h g k a b = go (ltb k i) refl
+  where
+    go : (t : Bool) → ltb k i ≡ t → getD ls k 0 ≤ 65535
+    go true f = h k a (ltb-true k i f)
+    go false f = let e : k ≡ i = omega (arith, ltb-false k i f) in rw e g
+
+pub short-join : (ls : List ℕ) (from i to : ℕ) → Short ls from i → Short ls i to → Short ls from to
+short-join ls from i to h g k a b = go (ltb k i) refl
+  where
+    go : (t : Bool) → ltb k i ≡ t → getD ls k 0 ≤ 65535
+    go true f = h k a (ltb-true k i f)
+    go false f = g k (ltb-false k i f) b
+
+pub total-next : (ls : List ℕ) (i j : ℕ) → j ≡ i + 1 → i < length ls → total (take j ls) ≡ total (take i ls) + getD ls i 0
+total-next ls i j e h = ap (λ (k : ℕ). total (take k ls)) (e ∙ add-one i) ∙ total-suc ls i h
+
+-- both numbers are at most their bits together
+pub or-left : (a b : ℕ) → a ≤ bitOr a b
+or-left a b = omega (arith, or-add-and a b, and-le-r a b)
+
+pub or-right : (a b : ℕ) → b ≤ bitOr a b
+or-right a b = omega (arith, or-add-and a b, and-le-l a b)
+
+-- one more length is tallied
+pub tally-next : (ls : List ℕ) (from i s x : ℕ) → i < length ls → from ≤ i → i < from + 4096 → getD ls i 0 ≤ 65535
+    → Tallied ls from i s → x ≡ (s + getD ls i 0) % 2 ^ 32 → Tallied ls from (i + 1) x
+tally-next ls from i s x h g b short t e =
+    let few = t .few in
+    let same : x ≡ s + getD ls i 0 = omega arith in
+    record {
+      sum = omega (arith, t .sum, total-next ls i (i + 1) refl h);
+      few = omega arith;
+      short = short-next ls from i (t .short) short;
+    }

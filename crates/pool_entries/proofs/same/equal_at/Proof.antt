@@ -1,0 +1,30 @@
+use mathlib.Core.Path.{_≡_, refl, sym, ap, ap₂, _∙_}
+use Prim.Native.Nat.{ℕ, _+_, _-_, _*_, _/_, _%_, _≤_, _<_, _^_}
+use native.Mathlib.Omega.{arith}
+use borrow.Author.Needs.{needs}
+use mathlib.Core.Bool.{Bool, true, false}
+use mathlib.Core.List.{List}
+use lib.ListN.{length, take, drop, getD}
+use Rattle.common.specs.Lists.{total}
+use Rattle.pool_entries.specs.Entries.{entry}
+use Rattle.pool_entries.proofs.Bytes.{equal-other}
+use Rattle.pool_entries.proofs.same.equal_at.Statement.{statement}
+use Rattle.pool_entries.proofs.same.equal_at.Tie as tie
+
+may-be-requires : tie.Need-may-be-requires
+may-be-requires c κs = search needs
+
+same-at-requires : tie.Need-same-at-requires
+same-at-requires c κs = search needs
+
+returns : tie.Need-returns
+returns c = search needs
+
+returns-2 : tie.Need-returns-2
+returns-2 c =
+    let s = c .before .before .before .before in
+    λ h. sym (equal-other (s .args .new .now) (take (length (s .args .new .now)) (drop (s .args .at) (s .args .text .now))) (s .args .count)
+    (c .before .may-be .ensures (c .if1 .left) (s .args .new .now) refl (s .pre .1) h))
+
+pub equal-at-spec : {M : Type 1} → statement M
+equal-at-spec = tie.close (tie.spec may-be-requires same-at-requires returns returns-2)

@@ -1,0 +1,28 @@
+use mathlib.Core.Path.{_≡_, refl, sym, ap, ap₂, _∙_}
+use Prim.Native.Nat.{ℕ, _+_, _-_, _*_, _/_, _%_, _≤_, _<_, _^_}
+use native.Mathlib.Omega.{arith}
+use borrow.Author.Needs.{needs}
+use mathlib.Core.Bool.{Bool, true, false}
+use mathlib.Core.List.{List}
+use lib.ListN.{length, take, drop, getD}
+use Rattle.common.specs.Lists.{total}
+use borrow.Author.Tests.{lt-ltb, le-ltb}
+use Rattle.pool_entries.proofs.Bytes.{equal-counts, equal-full}
+use Rattle.pool_entries.proofs.same.is_equal.Statement.{statement}
+use Rattle.pool_entries.proofs.same.is_equal.Tie as tie
+
+same-requires : tie.Need-same-requires
+same-requires c κs = search needs
+
+returns : tie.Need-returns
+returns c =
+    let s = c .before .before .before .before in
+    c .same .ensures ∙ sym (equal-counts (s .args .new .now) (s .args .text .now) (s .args .count) (lt-ltb _ _ (c .before .if1 .taken)))
+
+returns-2 : tie.Need-returns-2
+returns-2 c =
+    let s = c .before .before .before in
+    sym (equal-full (s .args .new .now) (s .args .text .now) (s .args .count) (le-ltb _ _ (c .if1 .left)))
+
+pub is-equal-spec : {M : Type 1} → statement M
+is-equal-spec = tie.close (tie.spec same-requires returns returns-2)

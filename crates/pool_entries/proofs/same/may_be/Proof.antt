@@ -1,0 +1,35 @@
+use mathlib.Core.Path.{_≡_, refl, sym, ap, ap₂, _∙_}
+use Prim.Native.Nat.{ℕ, _+_, _-_, _*_, _/_, _%_, _≤_, _<_, _^_}
+use native.Mathlib.Omega.{arith}
+use borrow.Author.Needs.{needs}
+use mathlib.Core.Bool.{Bool, true, false}
+use mathlib.Core.List.{List}
+use lib.ListN.{length, take, drop, getD}
+use Rattle.common.specs.Lists.{total}
+use borrow.Author.Tests.{eqb-false}
+use Rattle.pool_entries.proofs.Bytes.{true-false, part-differs}
+use Rattle.pool_entries.proofs.same.may_be.Statement.{statement}
+use Rattle.pool_entries.proofs.same.may_be.Tie as tie
+
+add-end : tie.Need-add-end
+add-end c = search needs
+
+returns : tie.Need-returns
+returns c = λ z t e w h. absurd (omega arith)
+
+sub-eight : tie.Need-sub-eight
+sub-eight c = search needs
+
+eight-requires : tie.Need-eight-requires
+eight-requires c κs = search needs
+
+returns-2 : tie.Need-returns-2
+returns-2 c =
+    let s = c .before .before .before .before in
+    λ z t e w h. part-differs (s .args .text .now) t (s .args .at) (s .args .size) (s .args .at + s .args .size - 8) (c .eight .result) (s .args .word) h (omega arith) e (omega arith) (c .eight .ensures) w (eqb-false _ _ z)
+
+returns-3 : tie.Need-returns-3
+returns-3 c = λ z. absurd (true-false (sym z))
+
+pub may-be-spec : {M : Type 1} → statement M
+may-be-spec = tie.close (tie.spec add-end returns sub-eight eight-requires returns-2 returns-3)

@@ -1,0 +1,39 @@
+-- What the judging of a state answers, and the search of a take.
+use Prim.Native.Nat.{ℕ}
+use mathlib.Core.List.{List}
+use lib.ListN.{length, take}
+use Rattle.common.specs.Sizes.{maxBytes}
+use Rattle.common.specs.Choice.{if_then_else_, _<?_}
+use Rattle.common.specs.Lists.{total}
+use Rattle.common.specs.Answers.{Answer, gives, refused, nowhere}
+use Rattle.pool_entries.specs.Entries.{Rooms, entriesOf}
+use Rattle.pool_entries.specs.Sound.{onSound}
+use Rattle.pool_entries.specs.Choose.{firstFreeOrEqual}
+use Rattle.pool_entries.specs.declared.judging.State.{State}
+use Rattle.pool_entries.specs.declared.judging.State.the-variants as state
+use Rattle.pool_entries.specs.declared.choosing.Choice.{Choice}
+use Rattle.pool_entries.specs.declared.choosing.Choice.the-variants as choice
+
+-- of a sound state, the bytes that its texts use
+abbrev pub judgeAnswer : ℕ → ℕ → Rooms → Answer ℕ
+judgeAnswer n codepage w = onSound n codepage w (gives (total (take n (w .lengths))))
+
+-- a place, where its text starts, and the bytes that all texts use
+abbrev pub spotAt : ℕ → Rooms → ℕ → ℕ × ℕ × ℕ
+spotAt n w k = (k, total (take k (w .lengths)), total (take n (w .lengths)))
+
+-- 22 for the text and for the text room, then 24; of a sound state, the place that a take chooses
+abbrev pub chooseAnswer : ℕ → ℕ → Rooms → List ℕ → Answer (ℕ × ℕ × ℕ)
+chooseAnswer n codepage w t =
+    if maxBytes <? length t then refused 22 nowhere
+    else onSound n codepage w (gives (spotAt n w (firstFreeOrEqual t (entriesOf n w))))
+
+abbrev pub judgedAs : State → Answer ℕ
+judgedAs (state.Sound used) = gives used
+judgedAs state.OverSize = refused 22 nowhere
+judgedAs state.Unsound = refused 24 nowhere
+
+abbrev pub chosenAs : Choice → Answer (ℕ × ℕ × ℕ)
+chosenAs (choice.At s) = gives (s .place, s .start, s .used)
+chosenAs choice.OverSize = refused 22 nowhere
+chosenAs choice.Unsound = refused 24 nowhere

@@ -1,0 +1,30 @@
+-- Which entry a take chooses.
+use Prim.Native.Nat.{ℕ, _+_}
+use mathlib.Core.Bool.{Bool, true, false, _&&_, _||_}
+use mathlib.Core.List.{List, [], _∷_}
+use Rattle.common.specs.Choice.{if_then_else_, _<?_, _=?_}
+use Rattle.pool_entries.specs.Entries.{Entry, free}
+
+-- "the same bytes"
+abbrev pub sameBytes : List ℕ → List ℕ → Bool
+sameBytes [] [] = true
+sameBytes [] (y ∷ ys) = false
+sameBytes (x ∷ xs) [] = false
+sameBytes (x ∷ xs) (y ∷ ys) = x =? y && sameBytes xs ys
+
+-- "that has the same bytes and a count below 65,535"
+abbrev pub equal : List ℕ → Entry → Bool
+equal t e = sameBytes (e .text) t && e .count <? 65535
+
+-- the place of the first that passes; with none, the place after the last
+abbrev pub firstPlace : (Entry → Bool) → List Entry → ℕ
+firstPlace f [] = 0
+firstPlace f (e ∷ es) = if f e then 0 else firstPlace f es + 1
+
+-- a text and the entries give a place; that after the last is a new entry's
+abbrev pub Chooser : Type 0
+Chooser = List ℕ → List Entry → ℕ
+
+-- "in entry order, the first entry that is free (count 0) or that has the same bytes and a count below 65,535"
+abbrev pub firstFreeOrEqual : Chooser
+firstFreeOrEqual t es = firstPlace (λ (e : Entry). free e || equal t e) es

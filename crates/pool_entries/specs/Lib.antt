@@ -1,0 +1,5 @@
+pub mod Calls
+pub mod Choose
+pub mod Entries
+pub mod Sound
+pub mod inner

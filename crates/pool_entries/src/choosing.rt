@@ -1,0 +1,122 @@
+// Which entry a take chooses, in a state that is judged in the same pass.
+use crate::adding::block_end;
+use crate::frees::first_free;
+use crate::judging::Used;
+use crate::judging::fits;
+use crate::judging::used_after;
+use crate::same::equal_at;
+use crate::same::last_eight;
+use crate::skips::Step;
+use crate::skips::length_at;
+use crate::skips::skip;
+use common::sizes::MAX_BYTES;
+ghost use mathlib.Core.Path.{_≡_};
+ghost use Prim.Native.Nat.{_+_, _≤_, _<_};
+ghost use lib.ListN.{length};
+ghost use Rattle.pool_entries.specs.Entries.{rooms};
+ghost use Rattle.pool_entries.specs.Calls.{chosenAs, chooseAnswer};
+ghost use Rattle.pool_entries.specs.inner.Look.{Ends, Counted, ScannedTo, ScanIs, FoundIs};
+
+// The place chosen, that after the last for a new entry; where its text starts; and the bytes that all texts use.
+pub struct Spot {
+    pub place: usize,
+    pub start: usize,
+    pub used: usize,
+}
+
+pub enum Choice {
+    At(Spot),
+    OverSize,
+    Unsound,
+}
+
+// The first equal entry of from..to, none of which is free; with none, `to`. The entries before `from` use begin bytes.
+fn scan(
+    n: usize,
+    lengths: &[u32],
+    counts: &[u16],
+    text: &[u8],
+    new: &[u8],
+    from: usize,
+    to: usize,
+    begin: usize,
+    word: u64,
+) -> Step
+    requires { ⌜ (n ≤ length (now lengths)) × (n ≤ length (now counts)) × (n ≤ 16777215) × (from ≤ to) × (to ≤ n) × (length (now new) ≤ 268435455) ⌝ }
+    requires { ⌜ Ends (now new) word × Counted (now counts) from to × ScannedTo n (rooms (now lengths) (now counts) (now text)) (now new) from begin ⌝ }
+    ensures { λ r. ⌜ ScanIs n (rooms (now (lengths .entry)) (now (counts .entry)) (now (text .entry))) (now (new .entry)) to (r .at) (r .start) ⌝ }
+{
+    let size = new.len();
+    let mut start = begin;
+    let mut i = from;
+    while i < to {
+        let length = length_at(lengths, i);
+        if length == size {
+            let count = counts[i];
+            if equal_at(count, text, start, new, word) {
+                return Step { at: i, start };
+            }
+            start += length;
+            i += 1;
+        } else {
+            let s = skip(lengths, i + 1, to, size, start + length);
+            start = s.start;
+            i = s.at;
+        }
+    }
+    Step { at: i, start }
+}
+
+// The first entry, of n, that is free or equal, in a state that may be unsound; with none, n.
+fn search(n: usize, lengths: &[u32], counts: &[u16], text: &[u8], new: &[u8]) -> Step
+    requires { ⌜ (n ≤ length (now lengths)) × (n ≤ length (now counts)) × (n ≤ 16777215) × (length (now new) ≤ 268435455) ⌝ }
+    ensures { λ r. ⌜ FoundIs n (rooms (now (lengths .entry)) (now (counts .entry)) (now (text .entry))) (now (new .entry)) (r .at) (r .start) ⌝ }
+{
+    let word = last_eight(new);
+    let mut start: usize = 0;
+    let mut i = 0;
+    while i < n {
+        let to = block_end(i, n, 1024);
+        let free = first_free(counts, i, to);
+        let s = scan(n, lengths, counts, text, new, i, free, start, word);
+        if s.at < free {
+            return s;
+        }
+        if free < to {
+            return s;
+        }
+        start = s.start;
+        i = to;
+    }
+    Step { at: i, start }
+}
+
+// The sizes and the soundness are judged, and the entry is chosen that a take of new is to have.
+pub fn choose(
+    num_strings: usize,
+    codepage: u32,
+    lengths: &[u32],
+    counts: &[u16],
+    text: &[u8],
+    new: &[u8],
+) -> Choice
+    ensures { λ r. ⌜ chosenAs r ≡ chooseAnswer «num_strings» codepage (rooms (now (lengths .entry)) (now (counts .entry)) (now (text .entry))) (now (new .entry)) ⌝ }
+{
+    if new.len() > MAX_BYTES {
+        return Choice::OverSize;
+    }
+    if text.len() > MAX_BYTES {
+        return Choice::OverSize;
+    }
+    if !fits(num_strings, codepage, lengths, counts) {
+        return Choice::Unsound;
+    }
+    let s = search(num_strings, lengths, counts, text, new);
+    let place = s.at;
+    let start = s.start;
+    let u = used_after(num_strings, lengths, counts, text.len(), place, start);
+    match u {
+        Used::Unsound => Choice::Unsound,
+        Used::Bytes(used) => Choice::At(Spot { place, start, used }),
+    }
+}

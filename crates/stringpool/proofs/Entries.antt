@@ -6,12 +6,12 @@ use native.Mathlib.Numerals.{add-one}
 use native.Mathlib.Omega.{arith}
 use mathlib.Core.List.{List, [], _∷_, _++_, map, append-assoc, append-nil}
 use lib.ListN.{length, take, drop, getD, set, replicate, length-append, length-drop, length-set, take-append-drop, length-take, length-map}
-use lib.Seq.{take-add, drop-drop, set-append-left, length-take-le, set-getD, getD-take, take-take, take-all, set-split, take-length, paste}
+use lib.Seq.{take-add, drop-drop, set-append-left, length-take-le, set-getD, getD-take, take-take, take-all, set-split}
 use Rattle.common.specs.Lists.{total}
-use Rattle.stringpool.specs.inner.Splice.{splice}
+use Rattle.text_room.specs.Texts.{splice}
 use Rattle.stringpool.specs.inner.Entries.{Entry, Rooms, rooms, Fit, cut, entriesOf, texts, lengthsOf, countsOf, putBack}
 use Rattle.stringpool.specs.inner.Drop.{none}
-use Rattle.stringpool.proofs.Splice.{front, length-front}
+use Rattle.text_room.proofs.Splice.{front, length-front}
 use Rattle.common.proofs.Sums.{total-in}
 
 -- a constructor's argument out of an equation of lengths
@@ -232,15 +232,17 @@ module _ (n : ℕ) (w : Rooms) (fit : Fit n w) (e : Entry) where
   pub put-added : n < length (w .lengths) → n < length (w .counts)
       → putBack n w (entriesOf n w ++ (e ∷ []))
       ≡ rooms (set (w .lengths) n (length (e .text))) (set (w .counts) n (e .count))
-      (paste (w .text) (total (take n (w .lengths))) (e .text) (length (e .text)))
+      (splice (w .text) (total (take n (w .lengths))) 0 (total (take n (w .lengths))) (e .text))
+  unfolding splice
   put-added hl hc =
       let es : List Entry = entriesOf n w in
       let u : ℕ = total (take n (w .lengths)) in
       let t : List ℕ = e .text in
       let all : List ℕ = texts (es ++ (e ∷ [])) in
       let len : length (es ++ (e ∷ [])) ≡ suc n = length-append es (e ∷ []) ∙ ap (λ (i : ℕ). i + 1) (length-entries n w fit) ∙ add-one n in
-      let z : u - length all ≡ 0 = omega (arith, length-texts-added) in
-      let m : max u (length all) ≡ u + length t = omega (arith, length-texts-added) in
+      let z : u - length all ≡ 0 - length t = omega (arith, length-texts-added) in
+      let m : max u (length all) ≡ max u (u - 0 + length t) = omega (arith, length-texts-added) in
+      let none-later : 0 ≡ u - (u + 0) = omega arith in
       rooms-eq
       (ap₂ (λ (x : List ℕ) (i : ℕ). x ++ drop i (w .lengths))
       (map-snoc (λ (x : Entry). length (x .text)) es e
@@ -253,5 +255,5 @@ module _ (n : ℕ) (w : Rooms) (fit : Fit n w) (e : Entry) where
       len
       ∙ put-snoc n (w .counts) (e .count) hc)
       (ap₂ (λ (i j : ℕ). all ++ replicate i 0 ++ drop j (w .text)) z m
-      ∙ ap (λ (x : List ℕ). x ++ drop (u + length t) (w .text)) (append-nil all ∙ texts-added)
-      ∙ ap (λ (x : List ℕ). take u (w .text) ++ x ++ drop (u + length t) (w .text)) (sym (take-length t)))
+      ∙ ap (λ (x : List ℕ). x ++ replicate (0 - length t) 0 ++ drop (max u (u - 0 + length t)) (w .text))
+      (texts-added ∙ sym (append-nil (take u (w .text) ++ t)) ∙ ap (λ (i : ℕ). take u (w .text) ++ t ++ take i (drop (u + 0) (w .text))) none-later))

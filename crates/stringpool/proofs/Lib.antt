@@ -6,7 +6,7 @@ pub mod Loads
 pub mod Look
 pub mod Signed
 pub mod Sound
-pub mod Splice
 pub mod Streams
 pub mod Sums
 pub mod Take
+pub mod Taking

@@ -1,5 +1,5 @@
 -- Laws of the entries of a pool stream, and of what a load answers and leaves.
-use mathlib.Core.Path.{_≡_, refl, sym, ap, ap₂, _∙_}
+use mathlib.Core.Path.{_≡_, refl, sym, ap, ap₂, subst, _∙_}
 use Prim.Native.Nat.{ℕ, zero, suc, _+_, _-_, _*_, _≤_, _<_, min}
 use native.Mathlib.Nat.{add-zero, add-assoc}
 use native.Mathlib.Omega.{arith}
@@ -15,11 +15,14 @@ use Rattle.common.specs.Answers.{Answer, gives, refused, Place, nowhere, onGive
 use Rattle.little_endian.specs.Numbers.{numberAt}
 use Rattle.stringpool.specs.Pool.{Rooms, rooms, entryRoom}
 use Rattle.stringpool.specs.Load.{Found, one, cut, ends, entryIn, withEntry, onFound, entriesIn, poolEntries, poolFrom, loadEntries, loadAnswer, loadOutcome}
-use Rattle.stringpool.specs.inner.Load.{foundAs, sizesOf, orNone, lengthsIn, countsIn, HasSize, Filling}
+use Rattle.stringpool.specs.inner.Load.{foundAs, sizesOf, orNone, lengthsIn, countsIn, HasSize, Filling, Loading, LoadIs}
 use Rattle.stringpool.specs.declared.pool.StringPool.{StringPool}
+use Rattle.stringpool.specs.declared.load.LoadPlan.{LoadPlan}
 use Rattle.stringpool.specs.declared.load.PoolEntry.{PoolEntry}
 use Rattle.stringpool.specs.declared.load.PoolEntry.the-variants.{One, Cut, End}
 use Rattle.stringpool.proofs.Entries.{rooms-eq}
+use Rattle.text_room.specs.Texts.{copiedIn}
+use Rattle.text_room.proofs.Splice.{copied-fits}
 
 -- ---- one entry
 
@@ -232,7 +235,7 @@ filling s n t a b h ha hb =
 -- ---- what a load answers and leaves
 
 -- a run at the front, of a list as long as it
-pub paste-front : (d s : List ℕ) (n : ℕ) → length s ≡ n → paste d 0 s n ≡ s over d
+paste-front : (d s : List ℕ) (n : ℕ) → length s ≡ n → paste d 0 s n ≡ s over d
 paste-front d s n e =
     let f : 0 + n ≡ length s = omega arith in
     ap₂ (λ (x : List ℕ) (i : ℕ). x ++ drop i d) (take-all n s (omega arith)) f
@@ -279,15 +282,34 @@ module _ (s d : List ℕ) (w : Rooms) (n t : ℕ) (h : HasSize s n t) where
         pub load-text : length (w .text) < t → (refused 6 nowhere, w) ≡ outcome w Answered
         load-text e = sym (ap (outcome w) (stored ∙ ap (Tests false false false) (lt-ltb (length (w .text)) t e)))
 
-        pub load-done : t ≤ length (w .text) → (p : StringPool) → p ≡ poolFrom s n → (ls cs ts : List ℕ)
-            → ls ≡ paste (w .lengths) 0 (lengthsIn s) n → cs ≡ paste (w .counts) 0 (countsIn s) n
-            → ts ≡ paste (w .text) 0 (take t d) (length (take t d)) → (gives p, rooms ls cs ts) ≡ outcome w Answered
-        load-done e p ep ls cs ts el ec et =
-            let x = entire s n t h in
-            ap₂ (λ (q : StringPool) (r : Rooms). (gives q, r)) ep
-            (rooms-eq (el ∙ paste-front (w .lengths) (lengthsIn s) n (x .many)) (ec ∙ paste-front (w .counts) (countsIn s) n (x .even))
-            (et ∙ paste-front (w .text) (take t d) (length (take t d)) refl))
-            ∙ sym (ap (outcome w) (stored ∙ ap (Tests false false false) (le-ltb (length (w .text)) t e)))
+        pub load-done : t ≤ length (w .text) → Loading (outcome w Answered) s d w n t
+        load-done e =
+            record {
+              size = h;
+              long = omega arith;
+              counted = omega arith;
+              stored = c;
+              room = e;
+              is = sym (ap (outcome w) (stored ∙ ap (Tests false false false) (le-ltb (length (w .text)) t e)));
+            }
+
+-- the rooms after a load, by the stores
+pub loaded : (goal : Answer StringPool × Rooms) (s d : List ℕ) (w : Rooms) (n t : ℕ) → Loading goal s d w n t → (p : StringPool) → p ≡ poolFrom s n → (ls cs ts : List ℕ)
+    → ls ≡ paste (w .lengths) 0 (lengthsIn s) n → cs ≡ paste (w .counts) 0 (countsIn s) n
+    → ts ≡ copiedIn (w .text) 0 (take t d) → (gives p, rooms ls cs ts) ≡ goal
+loaded goal s d w n t l p ep ls cs ts el ec et =
+    let x = entire s n t (l .size) in
+    ap₂ (λ (q : StringPool) (r : Rooms). (gives q, r)) ep
+    (rooms-eq (el ∙ paste-front (w .lengths) (lengthsIn s) n (x .many)) (ec ∙ paste-front (w .counts) (countsIn s) n (x .even))
+    (et ∙ copied-fits (w .text) 0 (take t d) (omega (arith, length-take-le t d (l .stored), l .room))))
+    ∙ l .is
+
+-- a plan by another name, and an outcome
+pub load-is : (goal : Answer StringPool × Rooms) (s d : List ℕ) (w : Rooms) (x y : LoadPlan) → x ≡ y → LoadIs goal s d w x → LoadIs goal s d w y
+load-is goal s d w x y f h = subst (LoadIs goal s d w) f h
+
+pub load-by : (goal goal' : Answer StringPool × Rooms) (s d : List ℕ) (w : Rooms) (x : LoadPlan) → goal ≡ goal' → LoadIs goal s d w x → LoadIs goal' s d w x
+load-by goal goal' s d w x e h = subst (λ (g : Answer StringPool × Rooms). LoadIs g s d w x) e h
 
 -- the whole load
 module _ (s d : List ℕ) (w : Rooms) where

@@ -5,9 +5,9 @@ pub mod Halved
 pub mod Load
 pub mod Look
 pub mod Passing
+pub mod Plan
 pub mod Refs
 pub mod Show
 pub mod Sound
-pub mod Splice
 pub mod Take
 pub mod Write

@@ -1,21 +1,24 @@
 // Drop: one reference less on an entry.
-use crate::entry::put_entry;
+use crate::entry::Plan;
+use crate::entry::carry_out;
+use crate::entry::start_of;
 use crate::judge::Judged;
 use crate::judge::judge;
 use crate::pool::StringPool;
 use crate::refs::Placed;
 use crate::refs::StringRef;
-use crate::text::start_of;
 use common::Refusal;
 ghost use mathlib.Core.Path.{_≡_};
-ghost use Prim.Native.Nat.{_+_, _-_, _≤_, _<_, _^_};
-ghost use lib.ListN.{length, take, drop, getD};
+ghost use Prim.Native.Nat.{ℕ, _≤_};
+ghost use mathlib.Core.List.{List, []};
+ghost use lib.ListN.{length, take};
 ghost use Rattle.common.specs.Lists.{total};
-ghost use Rattle.stringpool.specs.inner.Entries.{Fit, rooms};
 ghost use Rattle.common.specs.Answers.{outcome};
+ghost use Rattle.stringpool.specs.Pool.{rooms};
 ghost use Rattle.stringpool.specs.Refs.{onReference};
 ghost use Rattle.stringpool.specs.Drop.{droppedAs, dropAt, dropOutcome};
-ghost use Rattle.stringpool.specs.inner.Drop.{DownIs};
+ghost use Rattle.stringpool.specs.inner.Drop.{droppedBy};
+ghost use Rattle.stringpool.specs.inner.Plan.{Planned};
 
 pub enum Dropped {
     Done(StringPool),
@@ -34,72 +37,69 @@ impl StringPool {
         ensures { λ a. ⌜ (droppedAs a, rooms (now (lengths .exit)) (now (counts .exit)) (now (text .exit)))
             ≡ dropOutcome self (rooms (now (lengths .entry)) (now (counts .entry)) (now (text .entry))) number ⌝ }
     {
-        let j = judge(self, lengths, counts, text);
-        match j {
-            Judged::Refused(why) => Dropped::Refused(why),
-            Judged::Sound(used) => decref_sound(
-                self,
-                lengths,
-                counts,
-                text,
-                StringRef(number),
-                used,
-            ),
-        }
+        let plan = plan_drop(self, lengths, counts, text, number);
+        let none = [0u8; 1];
+        carry_out(plan, lengths, counts, text, &none[..0]);
+        drop_answer(self, plan)
     }
 }
 
-// The drop on a sound pool.
-fn decref_sound(
-    p: StringPool,
-    lengths: &mut [u32],
-    counts: &mut [u16],
-    text: &mut [u8],
-    r: StringRef,
-    used: usize,
-) -> Dropped
-    requires { ⌜ Fit (p .«num_strings») (rooms (now lengths) (now counts) (now text)) ⌝ }
-    requires { ⌜ (used ≡ total (take (p .«num_strings») (now lengths))) × (length (now text) ≤ 268435455) ⌝ }
-    ensures { λ a. ⌜ (droppedAs a, rooms (now (lengths .exit)) (now (counts .exit)) (now (text .exit)))
-        ≡ outcome (rooms (now (lengths .entry)) (now (counts .entry)) (now (text .entry)))
-        (onReference (r .0) (dropAt p (rooms (now (lengths .entry)) (now (counts .entry)) (now (text .entry))))) ⌝ }
+// The soundness is judged, and what follows is settled.
+fn plan_drop(p: StringPool, lengths: &[u32], counts: &[u16], text: &[u8], number: i32) -> Plan
+    ensures { λ r. ⌜ Planned (dropOutcome p (rooms (now (lengths .entry)) (now (counts .entry)) (now (text .entry))) number)
+        (droppedBy p r) r (rooms (now (lengths .entry)) (now (counts .entry)) (now (text .entry))) [] ⌝ }
 {
-    let n = p.num_strings;
+    let j = judge(p, lengths, counts, text);
+    match j {
+        Judged::Refused(why) => Plan::Refused(why),
+        Judged::Sound(used) => drop_sound(p, lengths, counts, StringRef(number), used),
+    }
+}
+
+// What a drop of that plan answers.
+fn drop_answer(p: StringPool, plan: Plan) -> Dropped
+    ensures { λ r. ⌜ droppedAs r ≡ droppedBy p plan ⌝ }
+{
+    match plan {
+        Plan::Refused(why) => Dropped::Refused(why),
+        Plan::Count(_, _) => Dropped::Done(p),
+        Plan::Put {
+            at: _,
+            start: _,
+            old: _,
+            used: _,
+            count: _,
+        } => Dropped::Done(p),
+    }
+}
+
+// The drop on a sound pool whose texts use that many bytes.
+fn drop_sound(p: StringPool, lengths: &[u32], counts: &[u16], r: StringRef, used: usize) -> Plan
+    requires { ⌜ (p .«num_strings» ≤ length (now lengths)) × (p .«num_strings» ≤ length (now counts))
+        × (p .«num_strings» ≤ 16777215) × (used ≡ total (take (p .«num_strings») (now lengths))) × (used ≤ 268435455) ⌝ }
+    ensures { λ a. ⌜ ((ts : List ℕ) → used ≤ length ts
+        → Planned (outcome (rooms (now (lengths .entry)) (now (counts .entry)) ts) (onReference (r .0) (dropAt p (rooms (now (lengths .entry)) (now (counts .entry)) ts))))
+        (droppedBy p a) a (rooms (now (lengths .entry)) (now (counts .entry)) ts) []) ⌝ }
+{
     let Placed::At(place) = r.place() else {
-        return Dropped::Refused(Refusal::ReferenceRange);
+        return Plan::Refused(Refusal::ReferenceRange);
     };
     let at = place.0;
-    if at >= n {
-        return Dropped::Refused(Refusal::DropPastEnd);
+    if at >= p.num_strings {
+        return Plan::Refused(Refusal::DropPastEnd);
     }
-    if counts[at] == 0 {
-        return Dropped::Refused(Refusal::CountZero);
-    }
-    count_down(n, lengths, counts, text, at, used);
-    Dropped::Done(p)
-}
-
-// The entry at `at`, of n, counts one less, and at 0 its text goes.
-fn count_down(
-    n: usize,
-    lengths: &mut [u32],
-    counts: &mut [u16],
-    text: &mut [u8],
-    at: usize,
-    used: usize,
-)
-    requires { ⌜ Fit n (rooms (now lengths) (now counts) (now text)) ⌝ }
-    requires { ⌜ (at < n) × (0 < getD (now counts) at 0) × (used ≡ total (take n (now lengths))) × (length (now text) ≤ 268435455) ⌝ }
-    ensures { λ _. ⌜ DownIs n at
-        (rooms (now (lengths .entry)) (now (counts .entry)) (now (text .entry)))
-        (rooms (now (lengths .exit)) (now (counts .exit)) (now (text .exit))) ⌝ }
-{
     let count = counts[at];
-    if count == 1 {
-        let start = start_of(lengths, at);
-        let none = [0u8; 1];
-        put_entry(n, lengths, counts, text, at, start, used, &none[..0], 0);
-    } else {
-        counts[at] = count - 1;
+    if count == 0 {
+        return Plan::Refused(Refusal::CountZero);
+    }
+    if count > 1 {
+        return Plan::Count(at, count - 1);
+    }
+    Plan::Put {
+        at,
+        start: start_of(lengths, at),
+        old: lengths[at] as usize,
+        used,
+        count: 0,
     }
 }

@@ -1,57 +1,69 @@
-// One entry of the lent rooms, replaced.
-use crate::text::copy_in;
-use crate::text::replace;
+// What a take or a drop is to do to one entry of the lent rooms: settled before a byte is touched, and done here alone.
+use common::Refusal;
+use text_room::replace;
 ghost use mathlib.Core.Path.{_≡_};
-ghost use Prim.Native.Nat.{_+_, _-_, _≤_, _<_, _^_};
-ghost use mathlib.Core.List.{_++_, _∷_, []};
-ghost use lib.ListN.{length, take, getD, set};
+ghost use Prim.Native.Nat.{_≤_, _<_, _^_};
+ghost use lib.ListN.{length, take};
 ghost use Rattle.common.specs.Lists.{total};
-ghost use Rattle.stringpool.specs.inner.Entries.{Fit, rooms, entriesOf, putBack};
+ghost use Rattle.stringpool.specs.Pool.{rooms};
+ghost use Rattle.stringpool.specs.inner.Plan.{carried, Ready};
 
-// Gives the entry at `at`, of n, the text new and a count; what it had goes. Its text starts at start, and all take used bytes.
-pub(crate) fn put_entry(
-    n: usize,
-    lengths: &mut [u32],
-    counts: &mut [u16],
-    text: &mut [u8],
-    at: usize,
-    start: usize,
-    used: usize,
-    new: &[u8],
-    count: u16,
-)
-    requires { ⌜ Fit n (rooms (now lengths) (now counts) (now text)) ⌝ }
-    requires { ⌜ (at < n) × (length (now new) < 2 ^ 32) × (start ≡ total (take at (now lengths))) × (used ≡ total (take n (now lengths)))
-        × (total (take n (now lengths)) - getD (now lengths) at 0 + length (now new) ≤ length (now text)) ⌝ }
-    ensures { λ _. ⌜ rooms (now (lengths .exit)) (now (counts .exit)) (now (text .exit))
-        ≡ putBack n (rooms (now (lengths .entry)) (now (counts .entry)) (now (text .entry)))
-        (set (entriesOf n (rooms (now (lengths .entry)) (now (counts .entry)) (now (text .entry)))) at
-        (record { text = now (new .entry); count = count })) ⌝ }
-{
-    let old = lengths[at] as usize;
-    replace(text, start, old, used, new);
-    lengths[at] = new.len() as u32;
-    counts[at] = count;
+pub(crate) enum Plan {
+    Refused(Refusal),
+    // The entry at a place gets another count.
+    Count(usize, u16),
+    // The entry at `at` gets a text and a count; its old bytes at start go, where used bytes are in use.
+    Put {
+        at: usize,
+        start: usize,
+        old: usize,
+        used: usize,
+        count: u16,
+    },
 }
 
-// Adds an entry with the text new and count 1 after the n entries, whose texts take used bytes.
-pub(crate) fn add_entry(
-    n: usize,
+// Does what is planned; the text that is put is new.
+pub(crate) fn carry_out(
+    plan: Plan,
     lengths: &mut [u32],
     counts: &mut [u16],
     text: &mut [u8],
-    used: usize,
     new: &[u8],
 )
-    requires { ⌜ Fit n (rooms (now lengths) (now counts) (now text)) ⌝ }
-    requires { ⌜ (n < length (now lengths)) × (n < length (now counts)) × (length (now new) < 2 ^ 32)
-        × (used ≡ total (take n (now lengths))) × (used + length (now new) ≤ length (now text)) ⌝ }
+    requires { ⌜ Ready plan (rooms (now lengths) (now counts) (now text)) (now new) ⌝ }
     ensures { λ _. ⌜ rooms (now (lengths .exit)) (now (counts .exit)) (now (text .exit))
-        ≡ putBack n (rooms (now (lengths .entry)) (now (counts .entry)) (now (text .entry)))
-        (entriesOf n (rooms (now (lengths .entry)) (now (counts .entry)) (now (text .entry)))
-        ++ (record { text = now (new .entry); count = 1 } ∷ [])) ⌝ }
+        ≡ carried plan (rooms (now (lengths .entry)) (now (counts .entry)) (now (text .entry))) (now (new .entry)) ⌝ }
 {
-    copy_in(text, used, new);
-    lengths[n] = new.len() as u32;
-    counts[n] = 1;
+    match plan {
+        Plan::Refused(_) => {}
+        Plan::Count(at, count) => {
+            counts[at] = count;
+        }
+        Plan::Put {
+            at,
+            start,
+            old,
+            used,
+            count,
+        } => {
+            replace(text, start, old, used, new);
+            lengths[at] = new.len() as u32;
+            counts[at] = count;
+        }
+    }
+}
+
+// Where the text of the entry k starts: the sum of the lengths before it.
+pub(crate) fn start_of(lengths: &[u32], k: usize) -> usize
+    requires { ⌜ (k ≤ length (now lengths)) × (total (take k (now lengths)) < 2 ^ 64) ⌝ }
+    ensures { λ r. ⌜ r ≡ total (take k (now (lengths .entry))) ⌝ }
+{
+    let mut sum: usize = 0;
+    let mut i = 0;
+    while i < k {
+        let size = lengths[i] as usize;
+        sum += size;
+        i += 1;
+    }
+    sum
 }

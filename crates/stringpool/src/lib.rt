@@ -11,7 +11,6 @@ mod pool;
 mod refs;
 mod shows;
 mod takes;
-mod text;
 mod writes;
 
 pub use crate::drops::Dropped;

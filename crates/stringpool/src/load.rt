@@ -1,18 +1,19 @@
 // Loading a pool stream and a data stream into the lent rooms.
 use crate::pool::StringPool;
-use crate::text::copy_in;
 use common::Refusal;
 use common::sizes::MAX_BYTES;
 use common::sizes::MAX_ENTRIES;
 use little_endian::read;
+use text_room::copy_in;
 ghost use mathlib.Core.Path.{_≡_};
-ghost use Prim.Native.Nat.{_+_, _≤_, _<_};
+ghost use Prim.Native.Nat.{ℕ, _≤_};
+ghost use mathlib.Core.List.{List};
 ghost use lib.ListN.{length};
 ghost use lib.Seq.{paste};
-ghost use Rattle.common.specs.Answers.{gives, onGiven, outcome};
-ghost use Rattle.stringpool.specs.Pool.{rooms};
+ghost use Rattle.common.specs.Answers.{onGiven, outcome};
+ghost use Rattle.stringpool.specs.Pool.{Rooms, rooms};
 ghost use Rattle.stringpool.specs.Load.{entryIn, poolEntries, poolFrom, loadEntries, loadedAs, loadOutcome};
-ghost use Rattle.stringpool.specs.inner.Load.{foundAs, sizedAs, sizesOf, lengthsIn, countsIn, HasSize, Filling};
+ghost use Rattle.stringpool.specs.inner.Load.{foundAs, sizedAs, sizesOf, lengthsIn, countsIn, HasSize, Filling, Lent, LoadIs};
 
 // What stands at the front of the bytes that are left of a pool stream.
 pub(crate) enum PoolEntry {
@@ -31,6 +32,12 @@ pub(crate) enum PoolEntry {
 pub(crate) enum Sized {
     Is(usize, u64),
     Cut,
+}
+
+// Of a load that is not refused, how many entries there are and how many bytes their texts take.
+pub(crate) enum LoadPlan {
+    Of(usize, usize),
+    Refused(Refusal),
 }
 
 pub enum Loaded {
@@ -143,62 +150,70 @@ impl StringPool {
         ensures { λ a. ⌜ (loadedAs a, rooms (now (lengths .exit)) (now (counts .exit)) (now (text .exit)))
             ≡ loadOutcome (now (pool .entry)) (now (texts .entry)) (rooms (now (lengths .entry)) (now (counts .entry)) (now (text .entry))) ⌝ }
     {
-        if pool.len() > MAX_BYTES {
-            return Loaded::Refused(Refusal::OverSize);
-        }
-        if texts.len() > MAX_BYTES {
-            return Loaded::Refused(Refusal::OverSize);
-        }
-        if text.len() > MAX_BYTES {
-            return Loaded::Refused(Refusal::OverSize);
-        }
-        if pool.len() < 4 {
-            return Loaded::Refused(Refusal::PoolStreamShort);
-        }
-        let sized = sizes(pool);
-        match sized {
-            Sized::Cut => Loaded::Refused(Refusal::EntryCut),
-            Sized::Is(n, sum) => load_sized(pool, texts, n, sum, lengths, counts, text),
+        let plan = plan_load(pool, texts.len(), lengths.len(), counts.len(), text.len());
+        match plan {
+            LoadPlan::Refused(why) => Loaded::Refused(why),
+            LoadPlan::Of(n, used) => {
+                fill(pool, n, lengths, counts);
+                copy_in(text, 0, &texts[..used]);
+                Loaded::Ready(pool_from(pool, n))
+            }
         }
     }
 }
 
+// The pool stream, a data stream and rooms of those sizes are judged.
+fn plan_load(pool: &[u8], texts: usize, lengths: usize, counts: usize, text: usize) -> LoadPlan
+    ensures { λ r. ⌜ ((d : List ℕ) (w : Rooms) → Lent d w texts lengths counts text
+        → LoadIs (loadOutcome (now (pool .entry)) d w) (now (pool .entry)) d w r) ⌝ }
+{
+    if pool.len() > MAX_BYTES {
+        return LoadPlan::Refused(Refusal::OverSize);
+    }
+    if texts > MAX_BYTES {
+        return LoadPlan::Refused(Refusal::OverSize);
+    }
+    if text > MAX_BYTES {
+        return LoadPlan::Refused(Refusal::OverSize);
+    }
+    if pool.len() < 4 {
+        return LoadPlan::Refused(Refusal::PoolStreamShort);
+    }
+    let sized = sizes(pool);
+    match sized {
+        Sized::Cut => LoadPlan::Refused(Refusal::EntryCut),
+        Sized::Is(n, sum) => plan_sized(n, sum, texts, lengths, counts, text),
+    }
+}
+
 // The same where the pool stream has n entries, none cut, whose lengths sum to sum.
-fn load_sized(
-    pool: &[u8],
-    texts: &[u8],
+fn plan_sized(
     n: usize,
     sum: u64,
-    lengths: &mut [u32],
-    counts: &mut [u16],
-    text: &mut [u8],
-) -> Loaded
-    requires { ⌜ HasSize (now pool) n sum ⌝ }
-    requires { ⌜ (length (now texts) ≤ 268435455) × (length (now text) ≤ 268435455) ⌝ }
-    ensures { λ a. ⌜ (loadedAs a, rooms (now (lengths .exit)) (now (counts .exit)) (now (text .exit)))
-        ≡ outcome (rooms (now (lengths .entry)) (now (counts .entry)) (now (text .entry)))
-        (onGiven (poolEntries (now (pool .entry)))
-        (loadEntries (now (pool .entry)) (now (texts .entry)) (rooms (now (lengths .entry)) (now (counts .entry)) (now (text .entry))))) ⌝ }
+    texts: usize,
+    lengths: usize,
+    counts: usize,
+    text: usize,
+) -> LoadPlan
+    ensures { λ r. ⌜ ((s d : List ℕ) (w : Rooms) → HasSize s n sum → Lent d w texts lengths counts text
+        → LoadIs (outcome w (onGiven (poolEntries s) (loadEntries s d w))) s d w r) ⌝ }
 {
     if n > MAX_ENTRIES {
-        return Loaded::Refused(Refusal::TooManyEntries);
+        return LoadPlan::Refused(Refusal::TooManyEntries);
     }
-    if n > lengths.len() {
-        return Loaded::Refused(Refusal::EntryRoom);
+    if n > lengths {
+        return LoadPlan::Refused(Refusal::EntryRoom);
     }
-    if n > counts.len() {
-        return Loaded::Refused(Refusal::EntryRoom);
+    if n > counts {
+        return LoadPlan::Refused(Refusal::EntryRoom);
     }
-    if sum > texts.len() as u64 {
-        return Loaded::Refused(Refusal::DataStreamShort);
+    if sum > texts as u64 {
+        return LoadPlan::Refused(Refusal::DataStreamShort);
     }
-    if sum > text.len() as u64 {
-        return Loaded::Refused(Refusal::TextRoom);
+    if sum > text as u64 {
+        return LoadPlan::Refused(Refusal::TextRoom);
     }
-    fill(pool, n, lengths, counts);
-    let used = sum as usize;
-    copy_in(text, 0, &texts[..used]);
-    Loaded::Ready(pool_from(pool, n))
+    LoadPlan::Of(n, sum as usize)
 }
 
 // The mark and the code page of the first four bytes, with a count of entries.

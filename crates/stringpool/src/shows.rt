@@ -1,10 +1,10 @@
 // Show: the text of a reference as a part of the lent text room, and its count.
+use crate::entry::start_of;
 use crate::judge::Judged;
 use crate::judge::judge;
 use crate::pool::StringPool;
 use crate::refs::Placed;
 use crate::refs::StringRef;
-use crate::text::start_of;
 use common::Refusal;
 ghost use mathlib.Core.Path.{_≡_};
 ghost use Prim.Native.Nat.{_≤_};

@@ -1,7 +1,7 @@
 // Take: one reference more on a text.
 use crate::choice::Chosen;
-use crate::entry::add_entry;
-use crate::entry::put_entry;
+use crate::entry::Plan;
+use crate::entry::carry_out;
 use crate::judge::Judged;
 use crate::looks::look;
 use crate::pool::StringPool;
@@ -10,13 +10,14 @@ use crate::refs::StringRef;
 use common::Refusal;
 use common::sizes::MAX_ENTRIES;
 ghost use mathlib.Core.Path.{_≡_};
-ghost use Prim.Native.Nat.{_+_, _-_, _≤_, _<_, _^_};
-ghost use lib.ListN.{length, take, getD};
-ghost use Rattle.common.specs.Lists.{total};
-ghost use Rattle.stringpool.specs.inner.Entries.{Fit, rooms};
-ghost use Rattle.stringpool.specs.Take.{takenAs, takeOutcome, firstFreeOrEqual};
-ghost use Rattle.stringpool.specs.inner.Take.{ChosenIs, ChosenTo, chosenOf, shortFull};
-ghost use Rattle.stringpool.specs.declared.choice.Chosen.the-variants.{Free, Equal, Added};
+ghost use Prim.Native.Nat.{ℕ, _≤_, _<_};
+ghost use mathlib.Core.List.{List};
+ghost use lib.ListN.{length};
+ghost use Rattle.common.specs.Answers.{outcome};
+ghost use Rattle.stringpool.specs.Pool.{Rooms, rooms};
+ghost use Rattle.stringpool.specs.Take.{takenAs, takeAt, takeOutcome, firstFreeOrEqual};
+ghost use Rattle.stringpool.specs.inner.Plan.{Planned};
+ghost use Rattle.stringpool.specs.inner.Take.{Known, FreeAt, shortFull, takenBy, holdingAt, Numbered};
 
 pub enum Taken {
     Ref(StringRef, StringPool),
@@ -35,98 +36,94 @@ impl StringPool {
         ensures { λ a. ⌜ (takenAs a, rooms (now (lengths .exit)) (now (counts .exit)) (now (text .exit)))
             ≡ takeOutcome firstFreeOrEqual self (rooms (now (lengths .entry)) (now (counts .entry)) (now (text .entry))) (now (new .entry)) ⌝ }
     {
-        let looked = look(self, lengths, counts, text, new);
-        let judged = looked.judged;
-        let chosen = looked.chosen;
-        match judged {
-            Judged::Refused(why) => Taken::Refused(why),
-            Judged::Sound(used) => incref_sound(
-                self,
-                lengths,
-                counts,
-                text,
-                new,
-                chosen,
-                looked.start,
-                used,
-            ),
-        }
+        let plan = plan_take(self, lengths, counts, text, new);
+        carry_out(plan, lengths, counts, text, new);
+        take_answer(self, plan)
     }
 }
 
-// The take on a sound pool, at the entry chosen.
-fn incref_sound(
-    p: StringPool,
-    lengths: &mut [u32],
-    counts: &mut [u16],
-    text: &mut [u8],
-    new: &[u8],
-    chosen: Chosen,
-    start: usize,
-    used: usize,
-) -> Taken
-    requires { ⌜ Fit (p .«num_strings») (rooms (now lengths) (now counts) (now text)) ⌝ }
-    requires { ⌜ ChosenTo p (rooms (now lengths) (now counts) (now text)) (now new) chosen start used ⌝ }
-    ensures { λ a. ⌜ ChosenIs p (now (new .entry)) (chosenOf p (rooms (now (lengths .entry)) (now (counts .entry)) (now (text .entry))) (now (new .entry)))
-        (rooms (now (lengths .entry)) (now (counts .entry)) (now (text .entry))) a
-        (rooms (now (lengths .exit)) (now (counts .exit)) (now (text .exit))) ⌝ }
+// The sizes and the soundness are judged, the entry is chosen, and what follows is settled.
+fn plan_take(p: StringPool, lengths: &[u32], counts: &[u16], text: &[u8], new: &[u8]) -> Plan
+    ensures { λ r. ⌜ Planned (takeOutcome firstFreeOrEqual p (rooms (now (lengths .entry)) (now (counts .entry)) (now (text .entry))) (now (new .entry)))
+        (takenBy p r) r (rooms (now (lengths .entry)) (now (counts .entry)) (now (text .entry))) (now (new .entry)) ⌝ }
 {
-    match chosen {
-        Chosen::Free(place) => take_free(p, lengths, counts, text, new, place, start, used),
-        Chosen::Equal(place) => count_up(p, lengths, counts, text, new, place),
-        Chosen::Added => take_added(p, lengths, counts, text, new, used),
+    let looked = look(p, lengths, counts, text, new);
+    let judged = looked.judged;
+    let chosen = looked.chosen;
+    match judged {
+        Judged::Refused(why) => Plan::Refused(why),
+        Judged::Sound(used) => match chosen {
+            Chosen::Equal(place) => {
+                let at = place.0;
+                Plan::Count(at, counts[at] + 1)
+            }
+            Chosen::Free(place) => {
+                let at = place.0;
+                let old = lengths[at] as usize;
+                put_free(p, place, looked.start, old, used, text.len(), new.len())
+            }
+            Chosen::Added => put_added(p, lengths.len(), counts.len(), used, text.len(), new.len()),
+        },
     }
 }
 
-// An equal entry counts up.
-fn count_up(
-    p: StringPool,
-    lengths: &mut [u32],
-    counts: &mut [u16],
-    text: &mut [u8],
-    new: &[u8],
-    place: EntryPlace,
-) -> Taken
-    requires { ⌜ Fit (p .«num_strings») (rooms (now lengths) (now counts) (now text)) ⌝ }
-    requires { ⌜ (p .«num_strings» ≤ 16777215) × (place .0 < p .«num_strings»)
-        × (0 < getD (now counts) (place .0) 0) × (getD (now counts) (place .0) 0 < 65535) ⌝ }
-    ensures { λ a. ⌜ ChosenIs p (now (new .entry)) (Equal place)
-        (rooms (now (lengths .entry)) (now (counts .entry)) (now (text .entry))) a
-        (rooms (now (lengths .exit)) (now (counts .exit)) (now (text .exit))) ⌝ }
+// What a take of that plan answers: where an entry is added, the pool has grown.
+fn take_answer(p: StringPool, plan: Plan) -> Taken
+    requires { ⌜ Numbered plan ⌝ }
+    ensures { λ r. ⌜ takenAs r ≡ takenBy p plan ⌝ }
 {
-    let at = place.0;
-    let count = counts[at];
-    counts[at] = count + 1;
-    Taken::Ref(place.reference(), p)
+    match plan {
+        Plan::Refused(why) => Taken::Refused(why),
+        Plan::Count(at, _) => Taken::Ref(EntryPlace(at).reference(), p),
+        Plan::Put {
+            at,
+            start: _,
+            old: _,
+            used: _,
+            count: _,
+        } => Taken::Ref(EntryPlace(at).reference(), holding(p, at)),
+    }
 }
 
-// A free entry gets the text, where the texts then fit.
-fn take_free(
+// The pool with an entry at the place.
+fn holding(p: StringPool, at: usize) -> StringPool
+    requires { ⌜ at < 16777215 ⌝ }
+    ensures { λ r. ⌜ r ≡ holdingAt p at ⌝ }
+{
+    if at < p.num_strings {
+        return p;
+    }
+    StringPool {
+        num_strings: at + 1,
+        long_string_refs: p.long_string_refs,
+        codepage: p.codepage,
+    }
+}
+
+// A free entry gets the text, where the texts then fit the room.
+fn put_free(
     p: StringPool,
-    lengths: &mut [u32],
-    counts: &mut [u16],
-    text: &mut [u8],
-    new: &[u8],
     place: EntryPlace,
     start: usize,
+    old: usize,
     used: usize,
-) -> Taken
-    requires { ⌜ Fit (p .«num_strings») (rooms (now lengths) (now counts) (now text)) ⌝ }
-    requires { ⌜ (start ≡ total (take (place .0) (now lengths))) × (used ≡ total (take (p .«num_strings») (now lengths))) ⌝ }
-    requires { ⌜ (p .«num_strings» ≤ 16777215) × (length (now text) ≤ 268435455) × (length (now new) ≤ 268435455)
-        × (place .0 < p .«num_strings») × (getD (now counts) (place .0) 0 ≡ 0) ⌝ }
-    ensures { λ a. ⌜ ChosenIs p (now (new .entry)) (Free place)
-        (rooms (now (lengths .entry)) (now (counts .entry)) (now (text .entry))) a
-        (rooms (now (lengths .exit)) (now (counts .exit)) (now (text .exit))) ⌝ }
+    room: usize,
+    size: usize,
+) -> Plan
+    requires { ⌜ (place .0 < 16777215) × (old ≤ used) × (used ≤ 268435455) × (size ≤ 268435455) ⌝ }
+    ensures { λ r. ⌜ ((w : Rooms) (t : List ℕ) → Known p w t used room size → FreeAt (p .«num_strings») w (place .0) start old
+        → Planned (outcome w (takeAt p w t (place .0))) (takenBy p r) r w t) ⌝ }
 {
-    let n = p.num_strings;
-    let at = place.0;
-    let old = lengths[at] as usize;
-    if used - old + new.len() > text.len() {
-        return Taken::Refused(Refusal::TextRoom);
+    if used - old + size > room {
+        return Plan::Refused(Refusal::TextRoom);
     }
-    put_entry(n, lengths, counts, text, at, start, used, new, 1);
-    Taken::Ref(place.reference(), p)
+    Plan::Put {
+        at: place.0,
+        start,
+        old,
+        used,
+        count: 1,
+    }
 }
 
 // Whether short references leave no number for a new entry.
@@ -139,43 +136,40 @@ fn short_full(p: StringPool) -> bool
     p.num_strings >= 65535
 }
 
-// An entry is added, where there is room.
-fn take_added(
+// An entry is added, where the rooms hold it.
+fn put_added(
     p: StringPool,
-    lengths: &mut [u32],
-    counts: &mut [u16],
-    text: &mut [u8],
-    new: &[u8],
+    lengths: usize,
+    counts: usize,
     used: usize,
-) -> Taken
-    requires { ⌜ Fit (p .«num_strings») (rooms (now lengths) (now counts) (now text)) ⌝ }
-    requires { ⌜ used ≡ total (take (p .«num_strings») (now lengths)) ⌝ }
-    requires { ⌜ (p .«num_strings» ≤ 16777215) × (length (now text) ≤ 268435455) × (length (now new) ≤ 268435455) ⌝ }
-    ensures { λ a. ⌜ ChosenIs p (now (new .entry)) Added
-        (rooms (now (lengths .entry)) (now (counts .entry)) (now (text .entry))) a
-        (rooms (now (lengths .exit)) (now (counts .exit)) (now (text .exit))) ⌝ }
+    room: usize,
+    size: usize,
+) -> Plan
+    requires { ⌜ (used ≤ 268435455) × (size ≤ 268435455) ⌝ }
+    ensures { λ r. ⌜ ((w : Rooms) (t : List ℕ) → Known p w t used room size → length (w .lengths) ≡ lengths → length (w .counts) ≡ counts
+        → Planned (outcome w (takeAt p w t (p .«num_strings»))) (takenBy p r) r w t) ⌝ }
 {
     let n = p.num_strings;
     if short_full(p) {
-        return Taken::Refused(Refusal::ShortReferencesFull);
+        return Plan::Refused(Refusal::ShortReferencesFull);
     }
     if n >= MAX_ENTRIES {
-        return Taken::Refused(Refusal::EntriesFull);
+        return Plan::Refused(Refusal::EntriesFull);
     }
-    if n >= lengths.len() {
-        return Taken::Refused(Refusal::EntryRoom);
+    if n >= lengths {
+        return Plan::Refused(Refusal::EntryRoom);
     }
-    if n >= counts.len() {
-        return Taken::Refused(Refusal::EntryRoom);
+    if n >= counts {
+        return Plan::Refused(Refusal::EntryRoom);
     }
-    if used + new.len() > text.len() {
-        return Taken::Refused(Refusal::TextRoom);
+    if used + size > room {
+        return Plan::Refused(Refusal::TextRoom);
     }
-    add_entry(n, lengths, counts, text, used, new);
-    let grown = StringPool {
-        num_strings: n + 1,
-        long_string_refs: p.long_string_refs,
-        codepage: p.codepage,
-    };
-    Taken::Ref(EntryPlace(n).reference(), grown)
+    Plan::Put {
+        at: n,
+        start: used,
+        old: 0,
+        used,
+        count: 1,
+    }
 }

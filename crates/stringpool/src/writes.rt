@@ -2,9 +2,9 @@
 use crate::judge::Judged;
 use crate::judge::judge;
 use crate::pool::StringPool;
-use crate::text::copy_in;
 use common::Refusal;
 use little_endian::write;
+use text_room::copy_in;
 ghost use mathlib.Core.Path.{_≡_};
 ghost use Prim.Native.Nat.{_+_, _*_, _≤_, _<_};
 ghost use lib.ListN.{length, take};

@@ -4,9 +4,13 @@ use mathlib.Core.Bool.{Bool, true, false}
 use mathlib.Core.Path.{_≡_}
 use mathlib.Core.List.{List, []}
 use lib.ListN.{length, getD, set}
-use Rattle.stringpool.specs.Pool.{Entry, entry, Rooms}
+use Rattle.common.specs.Answers.{Answer, gives}
+use Rattle.common.specs.Refusals.{refusedBy}
+use Rattle.stringpool.specs.declared.pool.StringPool.{StringPool}
+use Rattle.stringpool.specs.Pool.{Entry, entry}
 use Rattle.stringpool.specs.Drop.{lessened}
-use Rattle.stringpool.specs.inner.Entries.{entriesOf, putBack}
+use Rattle.stringpool.specs.declared.entry.Plan.{Plan}
+use Rattle.stringpool.specs.declared.entry.Plan.the-variants.{Refused, Count, Put}
 
 -- no entry: free, with no text
 abbrev pub none : Entry
@@ -15,6 +19,8 @@ none = entry [] 0
 abbrev pub downAt : List Entry → ℕ → List Entry
 downAt es k = set es k (lessened (getD es k none))
 
--- a drop on the entry at k of n, which is counted
-pub record DownIs (n k : ℕ) (was left : Rooms) : Type 0 where
-  pub rooms : left ≡ putBack n was (downAt (entriesOf n was) k)
+-- what a drop of a plan answers
+abbrev pub droppedBy : StringPool → Plan → Answer StringPool
+droppedBy p (Refused why) = refusedBy why
+droppedBy p (Count k c) = gives p
+droppedBy p (Put k start old used c) = gives p

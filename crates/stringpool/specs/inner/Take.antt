@@ -1,24 +1,28 @@
 -- Which entry the code chooses, and the judge's answer to a take.
-use Prim.Native.Nat.{ℕ, _+_, _≤_}
+use Prim.Native.Nat.{ℕ, _+_, _≤_, _<_}
 use mathlib.Core.Bool.{Bool, true, false, not, _&&_}
 use mathlib.Core.Path.{_≡_}
 use mathlib.Core.List.{List, [], _∷_}
-use lib.ListN.{length, take}
+use lib.ListN.{length, take, getD}
 use lib.Dec.{ltb, eqb}
 use Rattle.common.specs.Lists.{total}
 use Rattle.stringpool.specs.declared.refs.EntryPlace.{EntryPlace}
-use Rattle.common.specs.Choice.{_≤?_, if_then_else_}
-use Rattle.common.specs.Answers.{outcome}
+use Rattle.common.specs.Choice.{_<?_, _≤?_, if_then_else_}
 use Rattle.stringpool.specs.Pool.{Entry, Rooms}
-use Rattle.stringpool.specs.Take.{takenAs, takeAt}
-use Rattle.stringpool.specs.inner.Entries.{entriesOf}
+use Rattle.stringpool.specs.inner.Entries.{Fit, entriesOf}
+use Rattle.stringpool.specs.Refs.{referenceTo}
+use Rattle.stringpool.specs.Take.{counting}
 use Rattle.stringpool.specs.inner.Sound.{judgeOf}
 use Rattle.stringpool.specs.declared.pool.StringPool.{StringPool}
+use lib.IntN.{ℤ}
+use Rattle.common.specs.Answers.{Answer, gives}
+use Rattle.common.specs.Refusals.{refusedBy}
 use Rattle.common.specs.declared.refusal.Refusal.the-variants.{OverSize}
 use Rattle.stringpool.specs.declared.judge.Judged.{Judged}
 use Rattle.stringpool.specs.declared.choice.Chosen.{Chosen}
 use Rattle.stringpool.specs.declared.choice.Chosen.the-variants.{Free, Equal, Added}
-use Rattle.stringpool.specs.declared.takes.Taken.{Taken}
+use Rattle.stringpool.specs.declared.entry.Plan.{Plan}
+use Rattle.stringpool.specs.declared.entry.Plan.the-variants as plan
 pub use Rattle.stringpool.specs.Take.{sameBytes}
 use Rattle.stringpool.specs.declared.judge.Judged.the-variants as judged
 
@@ -54,15 +58,35 @@ judgeTake p w t = (if ltb 268435455 (length t) then judged.Refused OverSize else
 abbrev pub chosenOf : StringPool → Rooms → List ℕ → Chosen
 chosenOf p w t = choose t (entriesOf (p .«num_strings») w)
 
--- the take on a pool that was judged sound, at the entry chosen
-pub record ChosenIs (p : StringPool) (t : List ℕ) (x : Chosen) (was : Rooms) (a : Taken) (left : Rooms) : Type 0 where
-  pub is : (takenAs a, left) ≡ outcome was (takeAt p was t (placeIn (entriesOf (p .«num_strings») was) x))
-
--- the entry chosen, where the text of a free one starts and the bytes in use, with the sizes that were judged
-pub record ChosenTo (p : StringPool) (w : Rooms) (t : List ℕ) (x : Chosen) (s u : ℕ) : Type 0 where
-  pub choice : x ≡ chosenOf p w t
-  pub start : (k : EntryPlace) → x ≡ Free k → s ≡ total (take (k .0) (w .lengths))
-  pub used : u ≡ total (take (p .«num_strings») (w .lengths))
+-- what is known of the rooms and the text of a take that was judged, by numbers
+pub record Known (p : StringPool) (w : Rooms) (t : List ℕ) (used room size : ℕ) : Type 0 where
+  pub fit : Fit (p .«num_strings») w
+  pub sum : used ≡ total (take (p .«num_strings») (w .lengths))
+  pub text : length (w .text) ≡ room
+  pub new : length t ≡ size
+  pub large : length (w .text) ≤ 268435455
+  pub small : length t ≤ 268435455
   pub few : p .«num_strings» ≤ 16777215
-  pub room : length (w .text) ≤ 268435455
-  pub new : length t ≤ 268435455
+
+-- the entry at k is free, with old bytes at start
+pub record FreeAt (n : ℕ) (w : Rooms) (k start old : ℕ) : Type 0 where
+  pub within : k < n
+  pub free : getD (w .counts) k 0 ≡ 0
+  pub begins : start ≡ total (take k (w .lengths))
+  pub long : old ≡ getD (w .lengths) k 0
+
+-- the pool with an entry at k: one of its own, or one that is added
+abbrev pub holdingAt : StringPool → ℕ → StringPool
+holdingAt p k = if k <? p .«num_strings» then p else counting p (k + 1)
+
+-- what a take of a plan answers
+abbrev pub takenBy : StringPool → Plan → Answer (ℤ × StringPool)
+takenBy p (plan.Refused why) = refusedBy why
+takenBy p (plan.Count k c) = gives (referenceTo k, p)
+takenBy p (plan.Put k start old used c) = gives (referenceTo k, holdingAt p k)
+
+-- the entry's place has a number
+abbrev pub Numbered : Plan → Type 0
+Numbered (plan.Refused why) = Unit {0}
+Numbered (plan.Count k c) = k < 16777215
+Numbered (plan.Put k start old used c) = k < 16777215

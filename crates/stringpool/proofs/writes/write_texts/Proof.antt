@@ -1,3 +1,4 @@
+use Rattle.text_room.proofs.Splice.{copied-fits}
 use mathlib.Core.Path.{_≡_, refl, sym, ap, ap₂, _∙_}
 use Prim.Native.Nat.{ℕ, suc, _+_, _-_, _*_, _≤_, _<_}
 use native.Mathlib.Omega.{arith}
@@ -5,7 +6,6 @@ use mathlib.Core.List.{List, [], _++_}
 use lib.ListN.{length, take, drop, getD}
 use Rattle.stringpool.specs.Pool.{rooms}
 use lib.Seq.{length-take-le}
-use Rattle.stringpool.proofs.Loads.{paste-front}
 use Rattle.stringpool.proofs.Streams.{write-short, write-done}
 use borrow.Author.Needs.{needs}
 use Rattle.stringpool.proofs.writes.write_texts.Statement.{statement}
@@ -23,9 +23,7 @@ slice-aggregate-copy-in c =
     sym (length-take-le (s .args .used) (s .args .text .now) (s .pre))
 
 copy-in-requires : tie.Need-copy-in-requires
-copy-in-requires c κs =
-    let s = c .before .before .before .before .before in
-    omega (arith, length-take-le (s .args .used) (s .args .text .now) (s .pre), c .before .before .if1 .left)
+copy-in-requires c κs = search needs
 
 same-length : tie.Need-same-length
 same-length c = search needs
@@ -36,7 +34,7 @@ returns-2 c =
     let u : ℕ = s .args .used in
     let e : length (take u (s .args .text .now)) ≡ u = length-take-le u (s .args .text .now) (s .pre) in
     write-done (take u (s .args .text .now)) (s .args .out .now) u _ (omega (arith, c .before .before .before .before .before .if1 .left)) (sym e)
-    (c .before .before .copy-in .ensures ∙ paste-front (s .args .out .now) (take u (s .args .text .now)) _ refl)
+    (c .before .before .copy-in .ensures ∙ copied-fits (s .args .out .now) 0 (take u (s .args .text .now)) (omega (arith, c .before .before .before .before .before .if1 .left)))
 
 pub write-texts-spec : {M : Type 1} → statement M
 write-texts-spec =

@@ -1,34 +1,30 @@
-use mathlib.Core.Path.{_≡_, refl, sym, ap, ap₂, _∙_}
-use Prim.Native.Nat.{ℕ, suc, _+_, _-_, _*_, _≤_, _<_}
-use native.Mathlib.Omega.{arith}
-use mathlib.Core.List.{List, [], _++_}
-use lib.ListN.{length, take, drop, getD}
-use Rattle.stringpool.specs.Pool.{rooms}
+use mathlib.Core.Path.{_≡_, ap, ap₂, _∙_}
 use lib.IntN.{ℤ}
 use mir.Syntax.{w32}
 use mir.Val.{toZ, ofZ}
 use mir.ValLaws.{toZ-ofZ}
-use Rattle.stringpool.proofs.Sound.{judging}
-use Rattle.stringpool.proofs.House.{judge-refused}
-use Rattle.stringpool.proofs.Drop.{drop-sound}
+use Rattle.common.specs.Answers.{Answer}
+use Rattle.stringpool.specs.Pool.{Rooms, rooms}
+use Rattle.stringpool.specs.Drop.{dropOutcome}
+use Rattle.stringpool.specs.declared.pool.StringPool.{StringPool}
 use borrow.Author.Needs.{needs}
 use Rattle.stringpool.proofs.pool.StringPool.decref.Statement.{statement}
 use Rattle.stringpool.proofs.pool.StringPool.decref.Tie as tie
 
-judge-requires : tie.Need-judge-requires
-judge-requires c κs = search needs
+plan-drop-requires : tie.Need-plan-drop-requires
+plan-drop-requires c κs = search needs
 
-enum-known-j : tie.Need-enum-known-j
-enum-known-j c = search needs
+array-share-prefix-none : tie.Need-array-share-prefix-none
+array-share-prefix-none c = search needs
 
-enum-known-j-2 : tie.Need-enum-known-j-2
-enum-known-j-2 c = search needs
+slice-aggregate-carry-out : tie.Need-slice-aggregate-carry-out
+slice-aggregate-carry-out c = search needs
 
-decref-sound-requires : tie.Need-decref-sound-requires
-decref-sound-requires c κs =
-    let s = c .before .before .before .before .before .before .before .before .before .before .before .before .before in
-    let j = judging (s .args .self) (rooms (s .args .lengths .now) (s .args .counts .now) (s .args .text .now)) (sym (c .before .before .before .before .before .before .judge .ensures) ∙ c .before .before .before .before .j2 .given .1) in
-    (j .all .fit, (j .used, j .size))
+carry-out-requires : tie.Need-carry-out-requires
+carry-out-requires c κs = c .before .before .before .before .plan-drop .ensures .ready
+
+drop-answer-requires : tie.Need-drop-answer-requires
+drop-answer-requires c κs = search needs
 
 same-length : tie.Need-same-length
 same-length c = search needs
@@ -41,38 +37,22 @@ same-length-3 c = search needs
 
 returns : tie.Need-returns
 returns c =
-    let s = c .before .before .before .before .before .before .before .before .before .before in
-    judge-refused (s .args .self) (rooms (s .args .lengths .now) (s .args .counts .now) (s .args .text .now)) (rooms (s .args .lengths .now) (s .args .counts .now) (s .args .text .now)) _ _ (sym (c .before .before .before .judge .ensures) ∙ c .before .j .given .1)
-
-same-length-4 : tie.Need-same-length-4
-same-length-4 c = search needs
-
-same-length-5 : tie.Need-same-length-5
-same-length-5 c = search needs
-
-same-length-6 : tie.Need-same-length-6
-same-length-6 c = search needs
-
-returns-2 : tie.Need-returns-2
-returns-2 c =
-    let s = c .before .before .before .before .before .before .before .before .before .before .before .before .before .before .before .before .before .before .before .before in
+    let s = c .before .before .before .before .before .before .before .before .before .before .before .before .before .before .before .before .before .before .before in
     let z : ℤ = s .args .number in
     let back : toZ w32 (ofZ w32 z) ≡ z = toZ-ofZ w32 z (search needs) in
-    drop-sound (s .args .self) _ z (rooms (s .args .lengths .now) (s .args .counts .now) (s .args .text .now)) _ back (sym (c .before .before .before .before .before .before .before .before .before .before .before .before .before .judge .ensures) ∙ c .before .before .before .before .before .before .before .before .before .before .before .j2 .given .1) (c .before .before .before .before .before .before .decref-sound .ensures)
+    ap₂ (λ (x : Answer StringPool) (y : Rooms). (x, y)) (c .drop-answer .ensures) (c .before .before .before .before .before .before .before .carry-out .ensures) ∙ c .before .before .before .before .before .before .before .before .before .before .before .before .plan-drop .ensures .is
+    ∙ ap (dropOutcome (s .args .self) (rooms (s .args .lengths .now) (s .args .counts .now) (s .args .text .now))) back
 
 pub decref-spec : {M : Type 1} → statement M
 decref-spec =
     tie.close
     (tie.spec
-    judge-requires
-    enum-known-j
-    enum-known-j-2
-    decref-sound-requires
+    plan-drop-requires
+    array-share-prefix-none
+    slice-aggregate-carry-out
+    carry-out-requires
+    drop-answer-requires
     same-length
     same-length-2
     same-length-3
-    returns
-    same-length-4
-    same-length-5
-    same-length-6
-    returns-2)
+    returns)

@@ -1,52 +1,49 @@
-use mathlib.Core.Path.{_≡_, refl, sym, ap, ap₂, _∙_}
-use Prim.Native.Nat.{ℕ, _+_, _-_, _≤_, _<_}
+use mathlib.Core.Path.{_≡_, refl, sym, ap, _∙_}
 use native.Mathlib.Omega.{arith}
 use lib.ListN.{length, take}
 use lib.Seq.{length-take-le}
-use Rattle.stringpool.specs.inner.Load.{sizedAs, HasSize}
-use Rattle.stringpool.specs.inner.Entries.{rooms}
-use Rattle.stringpool.proofs.Loads.{load-big-pool, load-big-data, load-big-text, load-short, load-cut, load-judged}
+use Rattle.stringpool.specs.Pool.{rooms}
+use Rattle.stringpool.specs.Load.{loadOutcome}
+use Rattle.stringpool.specs.inner.Load.{Loading}
+use Rattle.stringpool.proofs.Loads.{filling, loaded, load-is}
 use borrow.Author.Needs.{needs}
 use Rattle.stringpool.proofs.pool.StringPool.load.Statement.{statement}
 use Rattle.stringpool.proofs.pool.StringPool.load.Tie as tie
 
+plan-load-requires : tie.Need-plan-load-requires
+plan-load-requires c κs = search needs
+
+enum-known-plan : tie.Need-enum-known-plan
+enum-known-plan c = search needs
+
+enum-known-plan-2 : tie.Need-enum-known-plan-2
+enum-known-plan-2 c = search needs
+
+fill-requires : tie.Need-fill-requires
+fill-requires c κs =
+    let s = c .before .before .before .before .before .before .before .before .before .before .before in
+    let w = rooms (s .args .lengths .now) (s .args .counts .now) (s .args .text .now) in
+    let l = load-is _ _ _ _ _ _ (c .before .before .before .plan2 .given .1) (c .before .before .before .before .before .plan-load .ensures (s .args .texts .now) w (record { stream = refl; long = refl; counted = refl; room = refl })) in
+    filling (s .args .pool .now) _ _ _ _ (l .size) (l .long) (l .counted)
+
+slice-aggregate-copy-in : tie.Need-slice-aggregate-copy-in
+slice-aggregate-copy-in c =
+    let s = c .before .before .before .before .before .before .before .before .before .before .before .before .before .before .before .before .before .before in
+    let w = rooms (s .args .lengths .now) (s .args .counts .now) (s .args .text .now) in
+    let l = load-is _ _ _ _ _ _ (c .before .before .before .before .before .before .before .before .before .before .plan2 .given .1) (c .before .before .before .before .before .before .before .before .before .before .before .before .plan-load .ensures (s .args .texts .now) w (record { stream = refl; long = refl; counted = refl; room = refl })) in
+    sym (length-take-le _ (s .args .texts .now) (l .stored))
+
+copy-in-requires : tie.Need-copy-in-requires
+copy-in-requires c κs = search needs
+
+pool-from-requires : tie.Need-pool-from-requires
+pool-from-requires c κs = search needs
+
 returns : tie.Need-returns
 returns c =
-    let s = c .before .before .before .before .before .before in
-    (load-big-pool (s .args .pool .now) (s .args .texts .now) (rooms (s .args .lengths .now) (s .args .counts .now) (s .args .text .now)) (c .if1 .taken))
-
-returns-2 : tie.Need-returns-2
-returns-2 c =
-    let s = c .before .before .before .before .before .before .before in
-    (load-big-data (s .args .pool .now) (s .args .texts .now) (rooms (s .args .lengths .now) (s .args .counts .now) (s .args .text .now)) (c .before .if1 .left) (c .if2 .taken))
-
-returns-3 : tie.Need-returns-3
-returns-3 c =
-    let s = c .before .before .before .before .before .before .before .before in
-    (load-big-text (s .args .pool .now) (s .args .texts .now) (rooms (s .args .lengths .now) (s .args .counts .now) (s .args .text .now)) (c .before .before .if1 .left) (c .before .if2 .left) (c .if3 .taken))
-
-returns-4 : tie.Need-returns-4
-returns-4 c =
     let s = c .before .before .before .before .before .before .before .before .before in
-    (load-short (s .args .pool .now) (s .args .texts .now) (rooms (s .args .lengths .now) (s .args .counts .now) (s .args .text .now)) (c .before .before .before .if1 .left) (c .before .before .if2 .left) (c .before .if3 .left) (c .if4 .taken))
-
-sizes-requires : tie.Need-sizes-requires
-sizes-requires c κs = search needs
-
-enum-told : tie.Need-enum-told
-enum-told c = search needs
-
-enum-known-sized : tie.Need-enum-known-sized
-enum-known-sized c = search needs
-
-load-sized-requires : tie.Need-load-sized-requires
-load-sized-requires c κs =
-    (record { is = sym (c .before .before .before .before .before .before .sizes .ensures) ∙ ap sizedAs (c .before .before .before .before .sized .given .1); marked = c .before .before .before .before .before .before .before .if4 .left; small = c .before .before .before .before .before .before .before .before .before .before .if1 .left }, (c .before .before .before .before .before .before .before .before .before .if2 .left, c .before .before .before .before .before .before .before .before .if3 .left))
-
-returns-5 : tie.Need-returns-5
-returns-5 c =
-    let s = c .before .before .before .before .before .before .before .before .before .before .before .before in
-    (load-cut (s .args .pool .now) (s .args .texts .now) (rooms (s .args .lengths .now) (s .args .counts .now) (s .args .text .now)) (c .before .before .before .before .before .before .if1 .left) (c .before .before .before .before .before .if2 .left) (c .before .before .before .before .if3 .left) (c .before .before .before .if4 .left) (sym (ap sizedAs (c .enum-told .given .1)) ∙ c .before .before .sizes .ensures))
+    let w = rooms (s .args .lengths .now) (s .args .counts .now) (s .args .text .now) in
+    load-is _ _ _ _ _ _ (c .before .plan .given .1) (c .before .before .before .plan-load .ensures (s .args .texts .now) w (record { stream = refl; long = refl; counted = refl; room = refl }))
 
 same-length : tie.Need-same-length
 same-length c = search needs
@@ -57,25 +54,26 @@ same-length-2 c = search needs
 same-length-3 : tie.Need-same-length-3
 same-length-3 c = search needs
 
-returns-6 : tie.Need-returns-6
-returns-6 c =
-    let s = c .before .before .before .before .before .before .before .before .before .before .before .before .before .before .before .before .before .before .before .before .before .before .before in
-    c .before .before .before .before .before .before .load-sized .ensures ∙ load-judged (s .args .pool .now) (s .args .texts .now) (rooms (s .args .lengths .now) (s .args .counts .now) (s .args .text .now)) (c .before .before .before .before .before .before .before .before .before .before .before .before .before .before .before .before .before .if1 .left) (c .before .before .before .before .before .before .before .before .before .before .before .before .before .before .before .before .if2 .left) (c .before .before .before .before .before .before .before .before .before .before .before .before .before .before .before .if3 .left) (c .before .before .before .before .before .before .before .before .before .before .before .before .before .before .if4 .left)
+returns-2 : tie.Need-returns-2
+returns-2 c =
+    let s = c .before .before .before .before .before .before .before .before .before .before .before .before .before .before .before .before .before .before .before .before .before .before in
+    let w = rooms (s .args .lengths .now) (s .args .counts .now) (s .args .text .now) in
+    let l = load-is _ _ _ _ _ _ (c .before .before .before .before .before .before .before .before .before .before .before .before .before .before .plan2 .given .1) (c .before .before .before .before .before .before .before .before .before .before .before .before .before .before .before .before .plan-load .ensures (s .args .texts .now) w (record { stream = refl; long = refl; counted = refl; room = refl })) in
+    loaded _ (s .args .pool .now) (s .args .texts .now) w _ _ l _ (c .pool-from .ensures) _ _ _ (c .before .before .before .before .before .before .before .before .before .before .fill .ensures .0) (c .before .before .before .before .before .before .before .before .before .before .fill .ensures .1) (c .before .before .before .copy-in .ensures)
 
 pub load-spec : {M : Type 1} → statement M
 load-spec =
     tie.close
     (tie.spec
+    plan-load-requires
+    enum-known-plan
+    enum-known-plan-2
+    fill-requires
+    slice-aggregate-copy-in
+    copy-in-requires
+    pool-from-requires
     returns
-    returns-2
-    returns-3
-    returns-4
-    sizes-requires
-    enum-told
-    enum-known-sized
-    load-sized-requires
-    returns-5
     same-length
     same-length-2
     same-length-3
-    returns-6)
+    returns-2)

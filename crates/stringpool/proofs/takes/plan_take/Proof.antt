@@ -1,0 +1,127 @@
+use mathlib.Core.Path.{_≡_, refl, sym, ap, _∙_}
+use native.Mathlib.Omega.{arith}
+use lib.ListN.{length, take, getD}
+use Rattle.common.proofs.Sums.{total-in}
+use Rattle.stringpool.specs.Pool.{rooms}
+use Rattle.stringpool.specs.inner.Entries.{entriesOf}
+use Rattle.stringpool.specs.inner.Take.{placeIn}
+use Rattle.stringpool.proofs.Taking.{take-refused, equal-done, look-known, look-equal, look-free, look-taken, look-added}
+use borrow.Author.Needs.{needs}
+use Rattle.stringpool.proofs.takes.plan_take.Statement.{statement}
+use Rattle.stringpool.proofs.takes.plan_take.Tie as tie
+
+look-requires : tie.Need-look-requires
+look-requires c κs = search needs
+
+enum-known-judged : tie.Need-enum-known-judged
+enum-known-judged c = search needs
+
+enum-known-judged-2 : tie.Need-enum-known-judged-2
+enum-known-judged-2 c = search needs
+
+enum-known-chosen : tie.Need-enum-known-chosen
+enum-known-chosen c = search needs
+
+mul-t18 : tie.Need-mul-t18
+mul-t18 c =
+    let s = c .before .before .before .before .before .before .before .before .before .before .before in
+    let w = rooms (s .args .lengths .now) (s .args .counts .now) (s .args .text .now) in
+    omega (arith, look-equal (s .args .p) w (s .args .new .now) _ _ _ _ (c .before .before .before .before .before .before .look .ensures) (c .before .before .before .before .judged2 .given .1) _ (c .before .chosen .given .1) .0, look-known (s .args .p) w (s .args .new .now) _ _ _ _ (c .before .before .before .before .before .before .look .ensures) (c .before .before .before .before .judged2 .given .1) .few)
+
+shared-slice-read-t20 : tie.Need-shared-slice-read-t20
+shared-slice-read-t20 c =
+    let s = c .before .before .before .before .before .before .before .before .before .before .before .before in
+    let w = rooms (s .args .lengths .now) (s .args .counts .now) (s .args .text .now) in
+    omega (arith, look-equal (s .args .p) w (s .args .new .now) _ _ _ _ (c .before .before .before .before .before .before .before .look .ensures) (c .before .before .before .before .before .judged2 .given .1) _ (c .before .before .chosen .given .1) .0, look-known (s .args .p) w (s .args .new .now) _ _ _ _ (c .before .before .before .before .before .before .before .look .ensures) (c .before .before .before .before .before .judged2 .given .1) .fit .counts)
+
+add-t21 : tie.Need-add-t21
+add-t21 c =
+    let s = c .before .before .before .before .before .before .before .before .before .before .before .before in
+    let w = rooms (s .args .lengths .now) (s .args .counts .now) (s .args .text .now) in
+    omega (arith, look-equal (s .args .p) w (s .args .new .now) _ _ _ _ (c .before .before .before .before .before .before .before .look .ensures) (c .before .before .before .before .before .judged2 .given .1) _ (c .before .before .chosen .given .1) .2)
+
+enum-known-chosen-2 : tie.Need-enum-known-chosen-2
+enum-known-chosen-2 c = search needs
+
+mul-old : tie.Need-mul-old
+mul-old c =
+    let s = c .before .before .before .before .before .before .before .before .before .before .before in
+    let w = rooms (s .args .lengths .now) (s .args .counts .now) (s .args .text .now) in
+    omega (arith, look-free (s .args .p) w (s .args .new .now) _ _ _ _ (c .before .before .before .before .before .before .look .ensures) (c .before .before .before .before .judged2 .given .1) _ (c .before .chosen2 .given .1) .within, look-known (s .args .p) w (s .args .new .now) _ _ _ _ (c .before .before .before .before .before .before .look .ensures) (c .before .before .before .before .judged2 .given .1) .few)
+
+shared-slice-read-old : tie.Need-shared-slice-read-old
+shared-slice-read-old c =
+    let s = c .before .before .before .before .before .before .before .before .before .before .before .before in
+    let w = rooms (s .args .lengths .now) (s .args .counts .now) (s .args .text .now) in
+    omega (arith, look-free (s .args .p) w (s .args .new .now) _ _ _ _ (c .before .before .before .before .before .before .before .look .ensures) (c .before .before .before .before .before .judged2 .given .1) _ (c .before .before .chosen2 .given .1) .within, look-known (s .args .p) w (s .args .new .now) _ _ _ _ (c .before .before .before .before .before .before .before .look .ensures) (c .before .before .before .before .before .judged2 .given .1) .fit .lengths)
+
+cast-old : tie.Need-cast-old
+cast-old c = omega (arith, c .shared-slice-known6 .given (c .before .before .chosen2 .given .0 .0 .0))
+
+put-free-requires : tie.Need-put-free-requires
+put-free-requires c κs =
+    let s = c .before .before .before .before .before .before .before .before .before .before .before .before in
+    let w = rooms (s .args .lengths .now) (s .args .counts .now) (s .args .text .now) in
+    let h = look-free (s .args .p) w (s .args .new .now) _ _ _ _ (c .before .before .before .before .before .before .before .look .ensures) (c .before .before .before .before .before .judged2 .given .1) _ (c .before .before .chosen2 .given .1) in
+    let q = look-known (s .args .p) w (s .args .new .now) _ _ _ _ (c .before .before .before .before .before .before .before .look .ensures) (c .before .before .before .before .before .judged2 .given .1) in
+    (omega (arith, h .within, q .few), omega (arith, q .sum, total-in (s .args .lengths .now) (c .before .before .chosen2 .given .0 .0 .0) (s .args .p .«num_strings») (h .within) (q .fit .lengths)), omega (arith, q .sum, q .fit .text, q .large), q .small)
+
+enum-told : tie.Need-enum-told
+enum-told c = search needs
+
+put-added-requires : tie.Need-put-added-requires
+put-added-requires c κs =
+    let s = c .before .before .before .before .before .before .before .before .before .before in
+    let w = rooms (s .args .lengths .now) (s .args .counts .now) (s .args .text .now) in
+    let q = look-known (s .args .p) w (s .args .new .now) _ _ _ _ (c .before .before .before .before .before .look .ensures) (c .before .before .before .judged2 .given .1) in
+    (omega (arith, q .sum, q .fit .text, q .large), q .small)
+
+returns : tie.Need-returns
+returns c =
+    let s = c .before .before .before .before .before .before .before .before in
+    take-refused (s .args .p) (s .args .new .now) (rooms (s .args .lengths .now) (s .args .counts .now) (s .args .text .now)) _ (sym (c .before .before .before .look .ensures .answer) ∙ c .before .judged .given .1)
+
+returns-2 : tie.Need-returns-2
+returns-2 c =
+    let s = c .before .before .before .before .before .before .before .before .before .before .before .before in
+    let w = rooms (s .args .lengths .now) (s .args .counts .now) (s .args .text .now) in
+    let h = look-equal (s .args .p) w (s .args .new .now) _ _ _ _ (c .before .before .before .before .before .before .before .look .ensures) (c .before .before .before .before .before .judged2 .given .1) _ (c .before .before .chosen .given .1) in
+    look-taken (s .args .p) w (s .args .new .now) _ _ _ _ (c .before .before .before .before .before .before .before .look .ensures) (c .before .before .before .before .before .judged2 .given .1) _ (sym (ap (placeIn (entriesOf (s .args .p .«num_strings») w)) (c .before .before .chosen .given .1))) _
+    (equal-done (s .args .p) w (look-known (s .args .p) w (s .args .new .now) _ _ _ _ (c .before .before .before .before .before .before .before .look .ensures) (c .before .before .before .before .before .judged2 .given .1) .fit) (s .args .new .now) _ (h .0) (look-known (s .args .p) w (s .args .new .now) _ _ _ _ (c .before .before .before .before .before .before .before .look .ensures) (c .before .before .before .before .before .judged2 .given .1) .few) (h .1))
+
+returns-3 : tie.Need-returns-3
+returns-3 c =
+    let s = c .before .before .before .before .before .before .before .before .before .before .before .before .before in
+    let w = rooms (s .args .lengths .now) (s .args .counts .now) (s .args .text .now) in
+    look-taken (s .args .p) w (s .args .new .now) _ _ _ _ (c .before .before .before .before .before .before .before .before .look .ensures) (c .before .before .before .before .before .before .judged2 .given .1) _ (sym (ap (placeIn (entriesOf (s .args .p .«num_strings») w)) (c .before .before .before .chosen2 .given .1))) _
+    (c .put-free .ensures w (s .args .new .now) (look-known (s .args .p) w (s .args .new .now) _ _ _ _ (c .before .before .before .before .before .before .before .before .look .ensures) (c .before .before .before .before .before .before .judged2 .given .1)) (look-free (s .args .p) w (s .args .new .now) _ _ _ _ (c .before .before .before .before .before .before .before .before .look .ensures) (c .before .before .before .before .before .before .judged2 .given .1) _ (c .before .before .before .chosen2 .given .1)))
+
+returns-4 : tie.Need-returns-4
+returns-4 c =
+    let s = c .before .before .before .before .before .before .before .before .before .before .before in
+    let w = rooms (s .args .lengths .now) (s .args .counts .now) (s .args .text .now) in
+    look-taken (s .args .p) w (s .args .new .now) _ _ _ _ (c .before .before .before .before .before .before .look .ensures) (c .before .before .before .before .judged2 .given .1) _ (look-added (s .args .p) w (s .args .new .now) _ _ _ _ (c .before .before .before .before .before .before .look .ensures) (c .before .before .before .before .judged2 .given .1) (c .before .enum-told .given .1)) _
+    (c .put-added .ensures w (s .args .new .now) (look-known (s .args .p) w (s .args .new .now) _ _ _ _ (c .before .before .before .before .before .before .look .ensures) (c .before .before .before .before .judged2 .given .1)) refl refl)
+
+pub plan-take-spec : {M : Type 1} → statement M
+plan-take-spec =
+    tie.close
+    (tie.spec
+    look-requires
+    enum-known-judged
+    enum-known-judged-2
+    enum-known-chosen
+    mul-t18
+    shared-slice-read-t20
+    add-t21
+    enum-known-chosen-2
+    mul-old
+    shared-slice-read-old
+    cast-old
+    put-free-requires
+    enum-told
+    put-added-requires
+    returns
+    returns-2
+    returns-3
+    returns-4)

@@ -1,0 +1,85 @@
+use mathlib.Core.Path.{_≡_, refl, sym, ap, _∙_}
+use Prim.Native.Nat.{ℕ, _+_, _-_, _≤_, _<_}
+use native.Mathlib.Omega.{arith}
+use mathlib.Core.List.{List, _++_}
+use lib.ListN.{length, drop}
+use Rattle.text_room.proofs.Splice.{front, splice-two, splice-more, splice-less}
+use borrow.Author.Needs.{needs}
+use Rattle.text_room.proofs.text.put.Statement.{statement}
+use Rattle.text_room.proofs.text.put.Tie as tie
+
+abbrev Two : tie.After-slice-known3 → Type 0
+Two k =
+    let s = k .before .before .before .before .before .before .before .before .before .before in
+    k .before .before .copy .last .0
+    ≡ front (s .args .text .now) (s .args .start) (s .args .old) (s .args .used) (s .args .new .now)
+    ++ drop (s .args .used - s .args .old + length (s .args .new .now)) (s .args .text .now)
+
+two : (k : tie.After-slice-known3) → Two k
+two k =
+    let m = k .before .before .before .before .before .before in
+    let s = m .before .before .before .before in
+    splice-two (s .args .text .now) (s .args .start) (s .args .old) (s .args .used) (s .args .new .now) (s .pre .0) (s .pre .1) (s .pre .2)
+    (m .move-text .last .0) (k .before .before .copy .last .0) (m .move-text .ensures) (k .before .before .copy .ensures)
+
+add-from : tie.Need-add-from
+add-from c = search needs
+
+sub-rest : tie.Need-sub-rest
+sub-rest c = search needs
+
+add-to : tie.Need-add-to
+add-to c = search needs
+
+move-text-requires : tie.Need-move-text-requires
+move-text-requires c κs = search needs
+
+copy-requires : tie.Need-copy-requires
+copy-requires c κs = search needs
+
+add-end : tie.Need-add-end
+add-end c = search needs
+
+sub-zero : tie.Need-sub-zero
+sub-zero c = search needs
+
+zero-requires : tie.Need-zero-requires
+zero-requires c κs = search needs
+
+same-length : tie.Need-same-length
+same-length c = search needs
+
+returns : tie.Need-returns
+returns c =
+    let k = c .before .before .before .before .before in
+    let s = k .before .before .before .before .before .before .before .before .before .before in
+    splice-less (s .args .text .now) (s .args .start) (s .args .old) (s .args .used) (s .args .new .now) (s .pre .0) (s .pre .1) (s .pre .2)
+    (k .before .before .copy .last .0) (c .before .before .zero .last .0) _ (omega arith) (c .before .before .before .before .if1 .taken)
+    (two k) (c .before .before .zero .ensures)
+
+same-length-2 : tie.Need-same-length-2
+same-length-2 c = search needs
+
+returns-2 : tie.Need-returns-2
+returns-2 c =
+    let k = c .before in
+    let s = k .before .before .before .before .before .before .before .before .before .before in
+    splice-more (s .args .text .now) (s .args .start) (s .args .old) (s .args .used) (s .args .new .now) (s .pre .0) (s .pre .1) (s .pre .2)
+    (k .before .before .copy .last .0) (omega arith) (two k)
+
+pub put-spec : {M : Type 1} → statement M
+put-spec =
+    tie.close
+    (tie.spec
+    add-from
+    sub-rest
+    add-to
+    move-text-requires
+    copy-requires
+    add-end
+    sub-zero
+    zero-requires
+    same-length
+    returns
+    same-length-2
+    returns-2)

@@ -1,0 +1,58 @@
+use mathlib.Core.Path.{_≡_, refl, sym, ap, _∙_}
+use Prim.Native.Nat.{ℕ, zero, suc, _+_, _*_, _-_, _≤_, _<_}
+use native.Mathlib.Nat.{le-refl, le-of-eq}
+use native.Mathlib.Omega.{arith}
+use mathlib.Core.List.{List}
+use lib.ListN.{length, take, drop, getD, set, replicate, length-set, length-drop, length-replicate, getD-replicate}
+use lib.Seq.{paste, paste-zero, length-paste, getD-drop}
+use Rattle.common.proofs.Run.{Run, run-start, run-turn, run-end, getD-past-paste, RunDown, down-start, down-turn, down-end}
+use Rattle.text_room.proofs.text.zero.Statement.{statement}
+use Rattle.text_room.proofs.text.zero.Tie as tie
+
+abbrev Inv-loop : tie.InvT-loop
+Inv-loop text₀ at size j₀ text j = Run text₀ at (replicate size 0) (size) text j
+
+abbrev μ-loop : tie.MeasureT-loop
+μ-loop text₀ at size j₀ text j = size - j
+
+loop-holds : tie.Need-loop-holds Inv-loop μ-loop
+loop-holds c = run-start _ _ _ _
+
+add-text : tie.Need-add-text Inv-loop μ-loop
+add-text c = omega arith
+
+slice-write-text : tie.Need-slice-write-text Inv-loop μ-loop
+slice-write-text c = omega arith
+
+add-j : tie.Need-add-j Inv-loop μ-loop
+add-j c = omega arith
+
+loop-less : tie.Need-loop-less Inv-loop μ-loop
+loop-less c = omega arith
+
+loop-again : tie.Need-loop-again Inv-loop μ-loop
+loop-again c =
+    let l = c .before in
+    let s = l .before in
+    run-turn 0 0 (omega arith) (simp length-replicate (omega arith)) (l .loop .inv) (c .loop-test .taken) (sym (getD-replicate (s .args .size) (l .loop .j) 0 0 (c .loop-test .taken)))
+
+same-length : tie.Need-same-length Inv-loop μ-loop
+same-length c = c .before .loop .inv .long
+
+returns : tie.Need-returns Inv-loop μ-loop
+returns c = run-end (c .before .loop .inv) (c .loop-test .left)
+
+pub zero-spec : {M : Type 1} → statement M
+zero-spec =
+    tie.close
+    (tie.spec
+    Inv-loop
+    μ-loop
+    loop-holds
+    add-text
+    slice-write-text
+    add-j
+    loop-less
+    loop-again
+    same-length
+    returns)

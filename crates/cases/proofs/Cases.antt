@@ -5,7 +5,7 @@ use mathlib.Core.List.{List, [], map}
 use lib.ListN.{getD}
 use Rattle.streamname.specs.Letters.{letters}
 use Rattle.streamname.specs.Names.{encoded}
-use Rattle.stringpool.specs.Pool.{sound}
+use Rattle.pool_entries.specs.Sound.{sound}
 use Rattle.cases.specs.Shown.{Shown, units, answered}
 use Rattle.cases.specs.Cases.{Case, cases, Cases}
 

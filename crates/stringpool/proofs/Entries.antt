@@ -13,18 +13,11 @@ use Rattle.stringpool.specs.inner.Entries.{Entry, Rooms, rooms, Fit, cut
 use Rattle.stringpool.specs.inner.Drop.{none}
 use Rattle.text_room.proofs.Splice.{front, length-front}
 use Rattle.common.proofs.Sums.{total-in}
+pub use Rattle.pool_entries.proofs.Entries.{length-cut, getD-cut, both, length-entries, entry-at}
 
 -- a constructor's argument out of an equation of lengths
 same : {m n : ℕ} → suc m ≡ suc n → m ≡ n
 same e = omega arith
-
-pub length-cut : (ls cs ts : List ℕ) → length ls ≡ length cs → length (cut ls cs ts) ≡ length ls
-length-cut [] cs ts h = refl
-length-cut (l ∷ ls) [] ts h = absurd (zs h)
-  where
-    zs : {n : ℕ} → suc n ≡ 0 → ⊥
-    zs e = omega arith
-length-cut (l ∷ ls) (c ∷ cs) ts h = ap suc (length-cut ls cs (drop l ts) (same h))
 
 pub counts-cut : (ls cs ts : List ℕ) → length ls ≡ length cs → countsOf (cut ls cs ts) ≡ cs
 counts-cut [] [] ts h = refl
@@ -43,16 +36,6 @@ pub texts-cut : (ls cs ts : List ℕ) → length ls ≡ length cs → texts (cut
 texts-cut [] cs ts h = refl
 texts-cut (l ∷ ls) [] ts h = absurd (omega arith)
 texts-cut (l ∷ ls) (c ∷ cs) ts h = ap (λ (x : List ℕ). take l ts ++ x) (texts-cut ls cs (drop l ts) (same h)) ∙ sym (take-add l (total ls) ts)
-
--- the entry at k
-pub getD-cut : (ls cs ts : List ℕ) (k : ℕ) → length ls ≡ length cs → k < length ls
-    → getD (cut ls cs ts) k none ≡ record { text = take (getD ls k 0) (drop (total (take k ls)) ts); count = getD cs k 0 }
-getD-cut [] cs ts k h hk = absurd (not-suc-le-zero hk)
-getD-cut (l ∷ ls) [] ts k h hk = absurd (omega arith)
-getD-cut (l ∷ ls) (c ∷ cs) ts zero h hk = refl
-getD-cut (l ∷ ls) (c ∷ cs) ts (suc k) h hk =
-    getD-cut ls cs (drop l ts) k (same h) (le-of-suc-le-suc hk)
-    ∙ ap (λ (t : List ℕ). record { text = take (getD ls k 0) t; count = getD cs k 0 }) (drop-drop (total (take k ls)) l ts)
 
 -- the texts with one entry replaced
 pub texts-set : (ls cs ts : List ℕ) (k : ℕ) (e : Entry) → length ls ≡ length cs → k < length ls
@@ -90,22 +73,8 @@ put-set n l k v h hk =
     let hk' : k < length (take n l) = simp length-take-le (omega arith) in
     sym (set-append-left (take n l) (drop n l) k v hk') ∙ ap (λ (x : List ℕ). set x k v) (take-append-drop n l)
 
-module _ (n : ℕ) (w : Rooms) (fit : Fit n w) where
-  pub both : length (take n (w .lengths)) ≡ length (take n (w .counts))
-  both = length-take-le n (w .lengths) (fit .lengths) ∙ sym (length-take-le n (w .counts) (fit .counts))
-
-  pub length-entries : length (entriesOf n w) ≡ n
-  length-entries = length-cut (take n (w .lengths)) (take n (w .counts)) (w .text) both ∙ length-take-le n (w .lengths) (fit .lengths)
-
 -- The rooms with one entry replaced: one store to the lengths, one to the counts, and the text spliced.
 module _ (n : ℕ) (w : Rooms) (fit : Fit n w) (k : ℕ) (hk : k < n) where
-  pub entry-at : getD (entriesOf n w) k none
-      ≡ record { text = take (getD (w .lengths) k 0) (drop (total (take k (w .lengths))) (w .text)); count = getD (w .counts) k 0 }
-  entry-at =
-      let hl : k < length (take n (w .lengths)) = omega (arith, length-take-le n (w .lengths) (fit .lengths)) in
-      getD-cut (take n (w .lengths)) (take n (w .counts)) (w .text) k (both n w fit) hl
-      ∙ rw (getD-take n (w .lengths) k 0 hk, getD-take n (w .counts) k 0 hk, take-take k n (w .lengths) (omega arith))
-
   pub texts-at : (e : Entry) → texts (set (entriesOf n w) k e)
       ≡ front (w .text) (total (take k (w .lengths))) (getD (w .lengths) k 0) (total (take n (w .lengths))) (e .text)
   texts-at e =
@@ -177,7 +146,7 @@ module _ (n : ℕ) (w : Rooms) (fit : Fit n w) (k : ℕ) (hk : k < n) where
       let s : ℕ = total (take k (w .lengths)) in
       let o : ℕ = getD (w .lengths) k 0 in
       let inside : s + o ≤ total (take n (w .lengths)) = total-in (w .lengths) k n hk (fit .lengths) in
-      ap (λ (x : Entry). length (x .text)) entry-at ∙ length-take-le o (drop s (w .text)) (simp length-drop (omega (arith, fit .text)))
+      ap (λ (x : Entry). length (x .text)) (entry-at n w fit k hk) ∙ length-take-le o (drop s (w .text)) (simp length-drop (omega (arith, fit .text)))
 
   -- another count does not change how long the texts are
   pub length-same : (c : ℕ) → length (texts (set (entriesOf n w) k (record { text = getD (entriesOf n w) k none .text; count = c })))
@@ -200,7 +169,7 @@ module _ (n : ℕ) (w : Rooms) (fit : Fit n w) (k : ℕ) (hk : k < n) where
       let t : List ℕ = take o (drop s (w .text)) in
       let inside : s + o ≤ total (take n (w .lengths)) = total-in (w .lengths) k n hk (fit .lengths) in
       let lt : length t ≡ o = length-take-le o (drop s (w .text)) (simp length-drop (omega (arith, fit .text))) in
-      ap (λ (x : List ℕ). putBack n w (set (entriesOf n w) k (record { text = x; count = c }))) (ap (λ (x : Entry). x .text) entry-at)
+      ap (λ (x : List ℕ). putBack n w (set (entriesOf n w) k (record { text = x; count = c }))) (ap (λ (x : Entry). x .text) (entry-at n w fit k hk))
       ∙ put-one (record { text = t; count = c }) (omega (arith, fit .text))
       ∙ rooms-eq (ap (set (w .lengths) k) lt ∙ set-getD (w .lengths) k 0) refl splice-same
 

@@ -30,71 +30,14 @@ use Rattle.stringpool.specs.declared.refs.Placed.{Placed}
 use Rattle.stringpool.specs.declared.refs.Placed.the-variants.{At, Outside}
 use Rattle.stringpool.proofs.Sound.{SoundFit, sound-fit, Judging, judging}
 use Rattle.stringpool.proofs.Entries.{entry-at, length-entries}
+use Rattle.pool_entries.proofs.Sound as state
 use Rattle.stringpool.specs.Pool as house
 use Rattle.stringpool.specs.declared.judge.Judged.the-variants as judged
 
 -- ---- soundness
 
--- every free entry is small, said of entries and of lengths and counts
-small-all : (ls cs ts : List ℕ) → total ls ≤ length ts
-    → all (λ (e : Entry). not (free e) || length (e .text) ≤? 65535) (cut ls cs ts) ≡ allSmall ls cs
-small-all [] cs ts h = refl
-small-all (l ∷ ls) [] ts h = refl
-small-all (l ∷ ls) (c ∷ cs) ts h =
-    ap₂ (λ (i : ℕ) (b : Bool). (not (c =? 0) || i ≤? 65535) && b) (length-take-le l ts (omega arith)) (small-all ls cs (drop l ts) (simp length-drop (omega arith)))
-    ∙ go (c =? 0) (l ≤? 65535) (allSmall ls cs)
-  where
-    go : (a b x : Bool) → ((not a || b) && x) ≡ (if (if a then b else true) then x else false)
-    go true true x = refl
-    go true false x = refl
-    go false b x = refl
-
--- a test, and the test that refuses
-leb-not : (m n : ℕ) → leb m n ≡ not (ltb n m)
-leb-not m n = go (ltb n m) refl
-  where
-    go : (b : Bool) → ltb n m ≡ b → leb m n ≡ not b
-    go true e = lt-leb m n (ltb-true n m e)
-    go false e = le-leb m n (ltb-false n m e)
-
-leb-min : (n a b : ℕ) → leb n (min a b) ≡ (not (ltb a n) && not (ltb b n))
-leb-min n a b = go (ltb a n) (ltb b n) refl refl
-  where
-    go : (x y : Bool) → ltb a n ≡ x → ltb b n ≡ y → leb n (min a b) ≡ (not x && not y)
-    go true y e f = lt-leb n (min a b) (omega (arith, ltb-true a n e))
-    go false true e f = lt-leb n (min a b) (omega (arith, ltb-true b n f))
-    go false false e f = le-leb n (min a b) (omega (arith, ltb-false a n e, ltb-false b n f))
-
--- 01's tests in one row, and the code's in its order
-sound-tests : (a b c x e f : Bool) → ((not a && not b) && not c && x && f && e) ≡ (if (if a then false else if b then false else if c then false else x) then (if e then f else false) else false)
-sound-tests true b c x e f = refl
-sound-tests false true c x e f = refl
-sound-tests false false true x e f = refl
-sound-tests false false false false e f = refl
-sound-tests false false false true true true = refl
-sound-tests false false false true true false = refl
-sound-tests false false false true false true = refl
-sound-tests false false false true false false = refl
-
--- a later test need only agree where the test before it holds
-guard : (a f x y : Bool) → (f ≡ true → x ≡ y) → (a && f && x) ≡ (a && f && y)
-guard true true x y h = h refl
-guard true false x y h = refl
-guard false f x y h = refl
-
 pub sound-same : (p : StringPool) (w : Rooms) → sound p w ≡ soundB p w
-unfolding sound fitsB
-sound-same p w =
-    let n : ℕ = p .«num_strings» in
-    let ls : List ℕ = take n (w .lengths) in
-    let cs : List ℕ = take n (w .counts) in
-    let f : Bool = leb (total ls) (length (w .text)) in
-    let page : Bool = leb (p .codepage) 2147483647 in
-    let small : Bool = all (λ (e : Entry). not (free e) || length (e .text) ≤? 65535) (cut ls cs (w .text)) in
-    guard (leb n (entryRoom w) && leb n 16777215 && page) f small (allSmall ls cs)
-    (λ e. small-all ls cs (w .text) (leb-true (total ls) (length (w .text)) e))
-    ∙ ap₂ (λ (x y : Bool). x && y && page && f && allSmall ls cs) (leb-min n (length (w .lengths)) (length (w .counts))) (leb-not n 16777215)
-    ∙ sound-tests (ltb (length (w .lengths)) n) (ltb (length (w .counts)) n) (ltb 16777215 n) page (allSmall ls cs) f
+sound-same p w = state.sound-same (p .«num_strings») (p .codepage) w
 
 -- what the judge decides
 abbrev pub byJudge : {A : Type 0} → Judged → Answer A → Answer A

@@ -1,12 +1,10 @@
 pub mod Drop
 pub mod Entries
-pub mod Fast
 pub mod House
 pub mod Loads
 pub mod Look
 pub mod Signed
 pub mod Sound
 pub mod Streams
-pub mod Sums
 pub mod Take
 pub mod Taking

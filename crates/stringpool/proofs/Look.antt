@@ -1,165 +1,83 @@
--- Laws of the pass that judges a pool and searches it.
-use mathlib.Core.Path.{_≡_, refl, sym, ap, ap₂, _∙_}
-use Prim.Native.Nat.{ℕ, zero, suc, _+_, _-_, _*_, _≤_, _<_}
+-- Laws of the judgement and the choice, as the calls on plain rooms answer them.
+use mathlib.Core.Path.{_≡_, refl, sym, ap, _∙_}
+use Prim.Native.Nat.{ℕ, _≤_}
 use native.Mathlib.Omega.{arith}
-use mathlib.Core.Bool.{Bool, true, false}
+use mathlib.Core.Bool.{Bool, true, false, not}
 use mathlib.Core.List.{List}
-use lib.ListN.{length, take, drop, getD, length-drop}
-use lib.Seq.{getD-take, getD-drop, length-take-le}
+use lib.ListN.{length, take, getD}
 use lib.Dec.{ltb, leb, eqb}
-use borrow.Author.Tests.{ltb-true, ltb-false, le-ltb, lt-ltb, le-leb, lt-leb, ne-eqb}
 use Rattle.common.specs.Choice.{if_then_else_}
 use Rattle.common.specs.Lists.{total}
-use Rattle.stringpool.specs.inner.Sound.{smallB, allSmall, sumsB, soundB, fitsB, usedOf, judgeOf}
-use Rattle.stringpool.specs.inner.Entries.{Rooms, Fit, entriesOf}
-use Rattle.stringpool.specs.inner.Halved.{Short}
-use Rattle.stringpool.specs.inner.Passing.{Passed, Quiet}
-use Rattle.stringpool.specs.inner.Take.{equalB, shift, choose, judgeTake, chosenOf}
-use Rattle.stringpool.specs.inner.Look.{PassedTo, SmallTo, ScannedTo, ScanIs, FoundIs, LookedIs}
-use Rattle.stringpool.specs.declared.pool.StringPool.{StringPool}
+use Rattle.common.specs.Answers.{Answer, gives, refused, nowhere}
 use Rattle.common.specs.declared.refusal.Refusal.{Refusal}
-use Rattle.stringpool.specs.declared.judge.Judged.{Judged}
+use Rattle.common.specs.declared.refusal.Refusal.the-variants as why
+use Rattle.pool_entries.specs.Calls.{spotAt, chooseAnswer}
+use Rattle.stringpool.specs.Pool.{onSound}
+use Rattle.stringpool.specs.Take.{firstFreeOrEqual}
+use Rattle.stringpool.specs.inner.Entries.{Rooms, Fit, entriesOf}
+use Rattle.stringpool.specs.inner.Sound.{soundB, judgeOf}
+use Rattle.stringpool.specs.inner.Take.{chosenAt, judgeTake, chosenOf}
+use Rattle.stringpool.specs.inner.Look.{LookedIs}
+use Rattle.stringpool.specs.declared.pool.StringPool.{StringPool}
 use Rattle.stringpool.specs.declared.refs.EntryPlace.{EntryPlace}
+use Rattle.stringpool.specs.declared.judge.Judged.{Judged}
+use Rattle.stringpool.specs.declared.judge.Judged.the-variants as judged
 use Rattle.stringpool.specs.declared.choice.Chosen.{Chosen}
 use Rattle.stringpool.specs.declared.choice.Chosen.the-variants.{Free, Equal, Added}
-use Rattle.stringpool.specs.declared.judge.Used.{Used}
-use Rattle.stringpool.specs.declared.judge.Used.the-variants.{Bytes, Unsound}
-use Rattle.stringpool.proofs.Sums.{small-next}
-use Rattle.stringpool.proofs.Sound.{Judging, judging, take-judged}
-use Rattle.stringpool.proofs.Fast.{all-short, total-next, pass-four}
-use Rattle.stringpool.proofs.Take.{choose-next, choose-added}
-use Rattle.common.specs.declared.refusal.Refusal.the-variants as why
-use Rattle.stringpool.specs.declared.judge.Judged.the-variants as judged
+use Rattle.stringpool.proofs.Sound.{judging, take-judged}
+use Rattle.stringpool.proofs.House.{byJudge, on-sound}
+use Rattle.stringpool.proofs.Take.{chosen-at}
 
--- ---- entries that are counted are small
+-- the number of a refusal, 0 with none; and what is given
+abbrev number : {A : Type 0} → Answer A → ℕ
+number (gives a) = 0
+number (refused n at) = n
 
-small-counted : (l c : ℕ) → 0 < c → smallB l c ≡ true
-small-counted l c h = ap (λ (b : Bool). (if b then leb l 65535 else true)) (ne-eqb c 0 (λ e. omega arith))
+abbrev given : {A : Type 0} → A → Answer A → A
+given x (gives a) = a
+given x (refused n at) = x
 
-module _ (n : ℕ) (ls cs : List ℕ) (hl : n ≤ length ls) (hc : n ≤ length cs) where
-  pub small-one : (i : ℕ) → i < n → 0 < getD cs i 0 → SmallTo n ls cs i → SmallTo n ls cs (i + 1)
-  small-one i h c inv = small-next n ls cs hl hc i inv h (small-counted (getD ls i 0) (getD cs i 0) c)
+module _ {A : Type 0} (p : StringPool) (w : Rooms) (x : A) where
+  abbrev Total : ℕ
+  Total = total (take (p .«num_strings») (w .lengths))
 
-  small-to : (i j : ℕ) → i ≡ j → SmallTo n ls cs i → SmallTo n ls cs j
-  small-to i j e h = rw e at h
+  -- the judgement by its two tests
+  abbrev By : Bool → Bool → Judged
+  By a b = if a then judged.Refused why.OverSize else if b then judged.Sound Total else judged.Refused why.Unsound
 
-  pub small-four : (i size : ℕ) → Quiet n ls cs i size → SmallTo n ls cs i → SmallTo n ls cs (i + 4)
-  small-four i size q a =
-      let b = small-one i (omega (arith, q .within)) (q .first .counted) a in
-      let c = small-to (i + 1 + 1) (i + 2) (omega arith) (small-one (i + 1) (omega (arith, q .within)) (q .second .counted) b) in
-      let d = small-to (i + 2 + 1) (i + 3) (omega arith) (small-one (i + 2) (omega (arith, q .within)) (q .third .counted) c) in
-      small-to (i + 3 + 1) (i + 4) (omega arith) (small-one (i + 3) (omega (arith, q .within)) (q .fourth .counted) d)
+  abbrev over : Bool
+  over = ltb 268435455 (length (w .text))
 
-  short-from : (at : ℕ) → at ≤ n → SmallTo n ls cs at → Short ls at n → allSmall (take n ls) (take n cs) ≡ true
-  short-from at h inv s =
-      inv ∙ all-short (drop at (take n ls)) (drop at (take n cs))
-      (λ k b.
-      let q : at + k < n = omega (arith, length-drop at (take n ls), length-take-le n ls hl) in
-      let e : getD (drop at (take n ls)) k 0 ≡ getD ls (at + k) 0 = rw getD-drop (getD-take n ls (at + k) 0 q) in
-      rw e (s (at + k) (omega arith) q))
-
-  -- ---- the bytes in use
-
-  module _ (room u : ℕ) (e : u ≡ total (take n ls)) where
-    by-tests : (a b : Bool) → allSmall (take n ls) (take n cs) ≡ a → leb u room ≡ b
-        → usedOf n ls cs room ≡ (if (if a then b else false) then Bytes (total (take n ls)) else Unsound)
-    by-tests a b f g =
-        ap₂ (λ (x y : Bool). if (if x then y else false) then Bytes (total (take n ls)) else Unsound) f (ap (λ (k : ℕ). leb k room) (sym e) ∙ g)
-
-    pub used-over : room < u → Unsound ≡ usedOf n ls cs room
-    used-over h = sym (by-tests (allSmall (take n ls) (take n cs)) false refl (lt-leb u room h) ∙ go (allSmall (take n ls) (take n cs)))
-      where
-        go : (a : Bool) → (if (if a then false else false) then Bytes (total (take n ls)) else Unsound) ≡ Unsound
-        go true = refl
-        go false = refl
-
-    module _ (h : u ≤ room) where
-      pub used-sound : allSmall (take n ls) (take n cs) ≡ true → Bytes u ≡ usedOf n ls cs room
-      used-sound s = ap Bytes e ∙ sym (by-tests true true s (le-leb u room h))
-
-      pub used-unsound : allSmall (take n ls) (take n cs) ≡ false → Unsound ≡ usedOf n ls cs room
-      used-unsound s = sym (by-tests false true s (le-leb u room h))
-
-      pub used-short : (at : ℕ) → at ≤ n → SmallTo n ls cs at → Short ls at n → Bytes u ≡ usedOf n ls cs room
-      used-short at k inv s = used-sound (short-from at k inv s)
-
--- ---- the search
-
-module _ (n : ℕ) (w : Rooms) (t : List ℕ) (hl : n ≤ length (w .lengths)) (hc : n ≤ length (w .counts)) where
-  -- four entries are passed by
-  pub scan-four : (i s r size : ℕ) → size ≡ length t → Quiet n (w .lengths) (w .counts) i size
-      → total (take i (w .lengths)) + r ≡ total (take (i + 4) (w .lengths)) → r ≤ 17179869180
-      → ScannedTo n w t i s → ScannedTo n w t (i + 4) (s + r)
-  scan-four i s r size e q h g a =
-      let q' : Quiet n (w .lengths) (w .counts) i (length t) = rw e at q in
-      record {
-        start = omega (arith, a .start);
-        few = omega (arith, a .few);
-        small = small-four n (w .lengths) (w .counts) hl hc i size q (a .small);
-        passed = λ fit. pass-four n w fit t i q' (a .passed fit);
-      }
-
-  -- one entry is passed by
-  pub scan-one : (i s : ℕ) → i < n → (getD (w .counts) i 0 ≡ 0 → ⊥) → getD (w .lengths) i 0 < 4294967296 → (b : Bool)
-      → (Fit n w → b ≡ equalB (getD (w .counts) i 0) (take (getD (w .lengths) i 0) (drop (total (take i (w .lengths))) (w .text))) t)
-      → b ≡ false → ScannedTo n w t i s → ScannedTo n w t (i + 1) (s + getD (w .lengths) i 0)
-  scan-one i s h z g b c f a = record {
-    start = omega (arith, a .start, total-next (w .lengths) i (i + 1) refl (omega arith));
-    few = omega (arith, a .few);
-    small = small-one n (w .lengths) (w .counts) hl hc i h (omega arith) (a .small);
-    passed = λ fit. choose-next n w fit t i (a .passed fit) h z b (c fit) f;
-  }
-
-  scan-to : (i j s : ℕ) → i ≡ j → ScannedTo n w t i s → ScannedTo n w t j s
-  scan-to i j s e a = rw e at a
-
-  -- a scan that passes all by
-  pub scan-on : (to : ℕ) (x : Chosen) (k s : ℕ) → to ≤ k → ScanIs n w t to x k s → ScannedTo n w t to s
-  scan-on to x k s h a = scan-to k to s (omega (arith, a .within)) (a .scanned)
-
-  -- what a scan ends with is found
-  pub found-in : (to : ℕ) (x : Chosen) (k s : ℕ) → to ≤ n → k < to → ScanIs n w t to x k s → FoundIs n w t x k s
-  found-in to x k s h g a = record {
-    within = omega arith;
-    start = a .scanned .start;
-    few = a .scanned .few;
-    small = a .scanned .small;
-    chosen = a .chosen g;
-    place = a .place;
-  }
-
-  pub found-all : (x : Chosen) (k s : ℕ) → ScanIs n w t n x k s → FoundIs n w t x k s
-  found-all x k s a = go (ltb k n) refl
+  pub judged-over : refused 22 nowhere ≡ onSound p w (gives x) → judgeOf p w ≡ judged.Refused why.OverSize
+  judged-over e = go over (soundB p w) (ap number (e ∙ on-sound p w (gives x)))
     where
-      go : (b : Bool) → ltb k n ≡ b → FoundIs n w t x k s
-      go true f = found-in n x k s (omega arith) (ltb-true k n f) a
-      go false f =
-          let e : k ≡ n = omega (arith, a .within, ltb-false k n f) in
-          record {
-            within = a .within;
-            start = a .scanned .start;
-            few = a .scanned .few;
-            small = a .scanned .small;
-            chosen = λ fit. a .none e ∙ choose-added n w fit t k (a .scanned .passed fit) (omega arith) (a .within);
-            place = a .place;
-          }
+      go : (a b : Bool) → 22 ≡ number (byJudge (By a b) (gives x)) → By a b ≡ judged.Refused why.OverSize
+      go true b q = refl
+      go false true q = let z : _≡_ {A = ℕ} 22 0 = q in absurd (omega arith)
+      go false false q = let z : _≡_ {A = ℕ} 22 24 = q in absurd (omega arith)
 
--- ---- the judgement
+  pub judged-unsound : refused 24 nowhere ≡ onSound p w (gives x) → judgeOf p w ≡ judged.Refused why.Unsound
+  judged-unsound e = go over (soundB p w) (ap number (e ∙ on-sound p w (gives x)))
+    where
+      go : (a b : Bool) → 24 ≡ number (byJudge (By a b) (gives x)) → By a b ≡ judged.Refused why.Unsound
+      go true b q = let z : _≡_ {A = ℕ} 24 22 = q in absurd (omega arith)
+      go false true q = let z : _≡_ {A = ℕ} 24 0 = q in absurd (omega arith)
+      go false false q = refl
+
+  module _ (y : A) (e : gives y ≡ onSound p w (gives x)) where
+    go : (a b : Bool) → gives y ≡ byJudge (By a b) (gives x) → (By a b ≡ judged.Sound Total) × (y ≡ x)
+    go true b q = let z : _≡_ {A = ℕ} 0 22 = ap number q in absurd (omega arith)
+    go false true q = (refl, ap (given x) q)
+    go false false q = let z : _≡_ {A = ℕ} 0 24 = ap number q in absurd (omega arith)
+
+    pub judged-sound : judgeOf p w ≡ judged.Sound Total
+    judged-sound = go over (soundB p w) (e ∙ on-sound p w (gives x)) .0
+
+    pub judged-given : y ≡ x
+    judged-given = go over (soundB p w) (e ∙ on-sound p w (gives x)) .1
 
 refused-sound : {x : Refusal} {u : ℕ} → judged.Refused x ≡ judged.Sound u → ⊥
 refused-sound q = let y : _≡_ {A = ℕ} 0 1 = cc in omega arith
-
--- the place of a free entry
-abbrev pub freePlace : Chosen → ℕ
-freePlace (Free k) = k .0
-freePlace (Equal k) = 0
-freePlace Added = 0
-
-pub equal-free : {j k : EntryPlace} → Equal j ≡ Free k → ⊥
-equal-free q = let y : _≡_ {A = ℕ} 0 1 = cc in omega arith
-
-pub added-free : {k : EntryPlace} → Added ≡ Free k → ⊥
-added-free q = let y : _≡_ {A = ℕ} 0 1 = cc in omega arith
 
 -- a refusal finds nothing
 pub looked-refused : (p : StringPool) (w : Rooms) (t : List ℕ) (j : Judged) (x : Chosen) (s : ℕ) (r : Refusal) → j ≡ judged.Refused r
@@ -169,51 +87,73 @@ looked-refused p w t j x s r e f = record {
   found = λ u g. absurd (refused-sound (sym e ∙ g));
 }
 
--- the judge, test by test
-module _ (p : StringPool) (w : Rooms) where
-  abbrev Total : ℕ
-  Total = total (take (p .«num_strings») (w .lengths))
+-- the place of a free entry
+abbrev freePlace : Chosen → ℕ
+freePlace (Free k) = k .0
+freePlace (Equal k) = 0
+freePlace Added = 0
 
-  pub judge-size : 268435455 < length (w .text) → judgeOf p w ≡ judged.Refused why.OverSize
-  judge-size h = simp (lt-ltb 268435455 (length (w .text)) h)
+equal-free : {j k : EntryPlace} → Equal j ≡ Free k → ⊥
+equal-free q = let y : _≡_ {A = ℕ} 0 1 = cc in omega arith
 
-  module _ (hw : length (w .text) ≤ 268435455) where
-    by-sound : (b : Bool) → soundB p w ≡ b → judgeOf p w ≡ (if b then judged.Sound Total else judged.Refused why.Unsound)
-    by-sound b e = simp (le-ltb 268435455 (length (w .text)) hw, e)
+added-free : {k : EntryPlace} → Added ≡ Free k → ⊥
+added-free q = let y : _≡_ {A = ℕ} 0 1 = cc in omega arith
 
-    pub judge-out : fitsB p (w .lengths) (w .counts) ≡ false → judgeOf p w ≡ judged.Refused why.Unsound
-    judge-out e = by-sound false (ap (λ (b : Bool). if b then sumsB (p .«num_strings») (w .lengths) (w .counts) (length (w .text)) else false) e)
+free-place : (n : ℕ) (cs : List ℕ) (k : ℕ) (j : EntryPlace) → chosenAt n cs k ≡ Free j → k ≡ j .0
+free-place n cs k j q = go (leb n k) (eqb (getD cs k 0) 0) q
+  where
+    go : (a b : Bool) → (if a then Added else (if b then Free (record { 0 = k }) else Equal (record { 0 = k }))) ≡ Free j → k ≡ j .0
+    go true b e = absurd (added-free e)
+    go false true e = ap freePlace e
+    go false false e = absurd (equal-free e)
 
-    module _ (fits : fitsB p (w .lengths) (w .counts) ≡ true) where
-      sound-is : (b : Bool) → sumsB (p .«num_strings») (w .lengths) (w .counts) (length (w .text)) ≡ b → soundB p w ≡ b
-      sound-is b e = ap (λ (a : Bool). if a then sumsB (p .«num_strings») (w .lengths) (w .counts) (length (w .text)) else false) fits ∙ e
-
-      pub judge-unsound : Unsound ≡ usedOf (p .«num_strings») (w .lengths) (w .counts) (length (w .text)) → judgeOf p w ≡ judged.Refused why.Unsound
-      judge-unsound e = by-sound false (sound-is false (go (sumsB (p .«num_strings») (w .lengths) (w .counts) (length (w .text))) e))
-        where
-          go : (b : Bool) → Unsound ≡ (if b then Bytes Total else Unsound) → b ≡ false
-          go true q = let y : _≡_ {A = ℕ} 0 1 = cc in absurd (omega arith)
-          go false q = refl
-
-      pub judge-sound : (b : ℕ) → Bytes b ≡ usedOf (p .«num_strings») (w .lengths) (w .counts) (length (w .text)) → judgeOf p w ≡ judged.Sound b
-      judge-sound b e =
-          let y = go (sumsB (p .«num_strings») (w .lengths) (w .counts) (length (w .text))) e in
-          by-sound true (sound-is true (y .0)) ∙ ap judged.Sound (sym (y .1))
-        where
-          go : (c : Bool) → Bytes b ≡ (if c then Bytes Total else Unsound) → (c ≡ true) × (b ≡ Total)
-          go true q = (refl, cc)
-          go false q = let y : _≡_ {A = ℕ} 0 1 = cc in absurd (omega arith)
-
--- the judge of a take
+-- the answer to a take, by the text's size and then the judgement
 module _ (p : StringPool) (w : Rooms) (t : List ℕ) where
-  pub look-new : 268435455 < length t → judgeTake p w t ≡ judged.Refused why.OverSize
-  look-new h = simp (lt-ltb 268435455 (length t) h)
+  abbrev n : ℕ
+  n = p .«num_strings»
 
-  pub look-judged : length t ≤ 268435455 → judgeTake p w t ≡ judgeOf p w
-  look-judged h = simp (le-ltb 268435455 (length t) h)
+  abbrev Spot : ℕ × ℕ × ℕ
+  Spot = spotAt n w (firstFreeOrEqual t (entriesOf n w))
 
-  pub look-done : (x : Chosen) (k s b : ℕ) → judgeTake p w t ≡ judged.Sound b → FoundIs (p .«num_strings») w t x k s → LookedIs p w t (judged.Sound b) x s
-  look-done x k s b e f = record {
-    answer = sym e;
-    found = λ u g. (f .chosen (judging p w (take-judged p w t e .1) .all .fit), λ j q. f .start ∙ ap (λ (i : ℕ). total (take i (w .lengths))) (f .place j q));
-  }
+  abbrev Sized : Bool → Answer (ℕ × ℕ × ℕ)
+  Sized b = if b then refused 22 nowhere else onSound p w (gives Spot)
+
+  pub look-over : refused 22 nowhere ≡ chooseAnswer n (p .codepage) w t → judgeTake p w t ≡ judged.Refused why.OverSize
+  look-over e = go (ltb 268435455 (length t)) e
+    where
+      go : (b : Bool) → refused 22 nowhere ≡ Sized b → (if b then judged.Refused why.OverSize else judgeOf p w) ≡ judged.Refused why.OverSize
+      go true q = refl
+      go false q = judged-over p w Spot q
+
+  pub look-unsound : refused 24 nowhere ≡ chooseAnswer n (p .codepage) w t → judgeTake p w t ≡ judged.Refused why.Unsound
+  look-unsound e = go (ltb 268435455 (length t)) e
+    where
+      go : (b : Bool) → refused 24 nowhere ≡ Sized b → (if b then judged.Refused why.OverSize else judgeOf p w) ≡ judged.Refused why.Unsound
+      go true q = let z : _≡_ {A = ℕ} 24 22 = ap number q in absurd (omega arith)
+      go false q = judged-unsound p w Spot q
+
+  module _ (y : ℕ × ℕ × ℕ) (e : gives y ≡ chooseAnswer n (p .codepage) w t) where
+    sized : (b : Bool) → gives y ≡ Sized b → ((if b then judged.Refused why.OverSize else judgeOf p w) ≡ judged.Sound (total (take n (w .lengths)))) × (y ≡ Spot)
+    sized true q = let z : _≡_ {A = ℕ} 0 22 = ap number q in absurd (omega arith)
+    sized false q = (judged-sound p w Spot y q, judged-given p w Spot y q)
+
+    pub look-sound : judgeTake p w t ≡ judged.Sound (total (take n (w .lengths)))
+    look-sound = sized (ltb 268435455 (length t)) e .0
+
+    pub look-fit : Fit n w
+    look-fit = judging p w (take-judged p w t look-sound .1) .all .fit
+
+    look-spot : y ≡ Spot
+    look-spot = sized (ltb 268435455 (length t)) e .1
+
+    pub look-done : (x : Chosen) → x ≡ chosenAt n (w .counts) (y .0) → LookedIs p w t (judged.Sound (y .2)) x (y .1)
+    look-done x c =
+        let k : y .0 ≡ Spot .0 = ap (λ (z : ℕ × ℕ × ℕ). z .0) look-spot in
+        let s : y .1 ≡ Spot .1 = ap (λ (z : ℕ × ℕ × ℕ). z .1) look-spot in
+        record {
+          answer = ap (λ (z : ℕ × ℕ × ℕ). judged.Sound (z .2)) look-spot ∙ sym look-sound;
+          found = λ u g. (
+            c ∙ chosen-at n w look-fit t (y .0) k,
+            λ j q. s ∙ ap (λ (i : ℕ). total (take i (w .lengths))) (sym k ∙ free-place n (w .counts) (y .0) j (sym c ∙ q)),
+          );
+        }

@@ -14,38 +14,11 @@ use Rattle.common.specs.declared.refusal.Refusal.the-variants.{OverSize, Unsoun
 use Rattle.stringpool.specs.inner.Sound.{allSmall, sumsB, fitsB, soundB, judgeOf}
 use Rattle.stringpool.specs.inner.Entries.{Rooms, Fit}
 use Rattle.stringpool.specs.inner.Take.{judgeTake}
+use Rattle.pool_entries.proofs.Sound.{fits-few}
+pub use Rattle.pool_entries.proofs.Sound.{false-true, then-second}
 use Rattle.stringpool.specs.declared.pool.StringPool.{StringPool}
 use Rattle.stringpool.specs.declared.judge.Judged.{Judged}
 use Rattle.stringpool.specs.declared.judge.Judged.the-variants as judged
-
-pub false-true : _≡_ {A = Bool} false true → ⊥
-false-true q = let y : _≡_ {A = ℕ} 0 1 = cc in omega arith
-
--- a refusing test did not fire, and what follows it holds
-pub not-first : (b x : Bool) → (if b then false else x) ≡ true → (b ≡ false) × (x ≡ true)
-not-first true x e = absurd (false-true e)
-not-first false x e = (refl, e)
-
-pub then-second : (b x : Bool) → (if b then x else false) ≡ true → (b ≡ true) × (x ≡ true)
-then-second true x e = (refl, e)
-then-second false x e = absurd (false-true e)
-
-pub record Few (p : StringPool) (ls cs : List ℕ) : Type 0 where
-  pub lengths : p .«num_strings» ≤ length ls
-  pub counts : p .«num_strings» ≤ length cs
-  pub few : p .«num_strings» ≤ 16777215
-  pub page : p .codepage ≤ 2147483647
-
-pub fits-few : (p : StringPool) (ls cs : List ℕ) → fitsB p ls cs ≡ true → Few p ls cs
-unfolding fitsB
-fits-few p ls cs e =
-    let n : ℕ = p .«num_strings» in
-    let x₂ : Bool = leb (p .codepage) 2147483647 in
-    let x₁ : Bool = if ltb 16777215 n then false else x₂ in
-    let a = not-first (ltb (length ls) n) (if ltb (length cs) n then false else x₁) e in
-    let b = not-first (ltb (length cs) n) x₁ (a .1) in
-    let c = not-first (ltb 16777215 n) x₂ (b .1) in
-    record { lengths = ltb-false _ _ (a .0); counts = ltb-false _ _ (b .0); few = ltb-false _ _ (c .0); page = leb-true _ _ (c .1) }
 
 -- a sound pool's entries fit its rooms, and number at most 16,777,215
 pub record SoundFit (p : StringPool) (w : Rooms) : Type 0 where
@@ -58,12 +31,12 @@ pub sound-fit : (p : StringPool) (w : Rooms) → soundB p w ≡ true → SoundFi
 sound-fit p w e =
     let n : ℕ = p .«num_strings» in
     let a = then-second (fitsB p (w .lengths) (w .counts)) (sumsB n (w .lengths) (w .counts) (length (w .text))) e in
-    let f = fits-few p (w .lengths) (w .counts) (a .0) in
+    let f = fits-few n (p .codepage) (w .lengths) (w .counts) (a .0) in
     let s = then-second (allSmall (take n (w .lengths)) (take n (w .counts))) (leb (total (take n (w .lengths))) (length (w .text))) (a .1) in
     record {
       fit = record { lengths = f .lengths; counts = f .counts; text = leb-true _ _ (s .1) };
       few = f .few;
-      page = f .page;
+      page = f .codepage;
       small = s .0;
     }
 

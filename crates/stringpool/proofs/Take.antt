@@ -21,7 +21,7 @@ use Rattle.common.specs.Answers.{Answer, gives, refused, nowhere, outcome}
 use Rattle.common.specs.Refusals.{refusedBy}
 use Rattle.stringpool.specs.Pool.{entry, entryRoom, free}
 use Rattle.stringpool.specs.Take.{sameBytes, equal, firstFreeOrEqual, increased, takenAt, counting, takeAt, takeAnswer, takeOutcome, takenAs}
-use Rattle.stringpool.specs.inner.Take.{equalB, shift, choose, placeIn}
+use Rattle.stringpool.specs.inner.Take.{equalB, shift, choose, chosenAt, placeIn}
 use Rattle.stringpool.specs.declared.pool.StringPool.{StringPool}
 use Rattle.common.specs.declared.refusal.Refusal.{Refusal}
 use Rattle.common.specs.declared.refusal.Refusal.the-variants.{OverSize, ShortReferencesFull, EntriesFull, EntryRoom, TextRoom}
@@ -31,78 +31,13 @@ use Rattle.stringpool.specs.declared.refs.StringRef.{StringRef}
 use Rattle.stringpool.specs.declared.refs.EntryPlace.{EntryPlace}
 use Rattle.stringpool.specs.declared.choice.Chosen.{Chosen}
 use Rattle.stringpool.specs.declared.choice.Chosen.the-variants.{Free, Equal, Added}
+pub use Rattle.pool_entries.proofs.Bytes.{same-eq}
 use Rattle.stringpool.proofs.Entries.{entry-at, length-entries, put-count, length-same, length-texts-at, length-texts-added}
 use Rattle.stringpool.proofs.House.{byJudge, on-sound, put-same}
 use Rattle.stringpool.proofs.Drop.{count-at}
 use Rattle.stringpool.specs.Pool as house
 use Rattle.stringpool.specs.declared.judge.Judged.the-variants as judged
 use Rattle.stringpool.specs.declared.takes.Taken.the-variants as taken
-
--- ---- the same bytes
-
-pub same-length : (xs ys : List ℕ) → (length xs ≡ length ys → ⊥) → sameBytes xs ys ≡ false
-same-length [] [] h = absurd (h refl)
-same-length [] (y ∷ ys) h = refl
-same-length (x ∷ xs) [] h = refl
-same-length (x ∷ xs) (y ∷ ys) h = go (eqb x y) (same-length xs ys (λ e. h (ap suc e)))
-  where
-    go : (b : Bool) → sameBytes xs ys ≡ false → (b && sameBytes xs ys) ≡ false
-    go true e = e
-    go false e = refl
-
-pub same-step : (xs ys : List ℕ) (i : ℕ) → i < length xs → i < length ys
-    → sameBytes (drop i xs) (drop i ys) ≡ (eqb (getD xs i 0) (getD ys i 0) && sameBytes (drop (i + 1) xs) (drop (i + 1) ys))
-same-step xs ys i hx hy = ap₂ sameBytes (drop-cons xs i 0 hx) (drop-cons ys i 0 hy) ∙ rw (add-one i)
-
-pub same-end : (xs ys : List ℕ) (i : ℕ) → length xs ≡ i → length ys ≡ i → sameBytes (drop i xs) (drop i ys) ≡ true
-same-end xs ys i hx hy =
-    ap₂ (λ (j k : ℕ). sameBytes (drop j xs) (drop k ys)) (sym hx) (sym hy) ∙ ap₂ sameBytes (drop-length xs) (drop-length ys)
-
--- ---- the choice, entry by entry
-
-pub shift-zero : (x : Chosen) → x ≡ shift 0 x
-shift-zero (Free k) = ap (λ (i : ℕ). Free (record { 0 = i })) (sym (zero-add (k .0)))
-shift-zero (Equal k) = ap (λ (i : ℕ). Equal (record { 0 = i })) (sym (zero-add (k .0)))
-shift-zero Added = refl
-
-pub shift-more : (i : ℕ) (x : Chosen) → shift i (shift 1 x) ≡ shift (i + 1) x
-shift-more i (Free k) = ap (λ (j : ℕ). Free (record { 0 = j })) (sym (add-assoc i 1 (k .0)))
-shift-more i (Equal k) = ap (λ (j : ℕ). Equal (record { 0 = j })) (sym (add-assoc i 1 (k .0)))
-shift-more i Added = refl
-
--- what the entry at i decides
-module _ (n : ℕ) (w : Rooms) (fit : Fit n w) (t : List ℕ) (i : ℕ) (inv : choose t (entriesOf n w) ≡ shift i (choose t (drop i (entriesOf n w)))) where
-  step : i < n → choose t (drop i (entriesOf n w))
-      ≡ (if eqb (getD (w .counts) i 0) 0 then Free (record { 0 = 0 }) else (if equalB (getD (w .counts) i 0) (take (getD (w .lengths) i 0) (drop (total (take i (w .lengths))) (w .text))) t then Equal (record { 0 = 0 }) else shift 1 (choose t (drop (suc i) (entriesOf n w)))))
-  step h =
-      ap (choose t) (drop-cons (entriesOf n w) i none (omega (arith, length-entries n w fit)))
-      ∙ ap (λ (e : Entry). choose t (e ∷ drop (suc i) (entriesOf n w))) (entry-at n w fit i h)
-
-  pub choose-free : i < n → getD (w .counts) i 0 ≡ 0 → Free (record { 0 = i }) ≡ choose t (entriesOf n w)
-  choose-free h z =
-      let f : eqb (getD (w .counts) i 0) 0 ≡ true = eq-eqb (getD (w .counts) i 0) 0 z in
-      let g : choose t (drop i (entriesOf n w)) ≡ Free (record { 0 = 0 }) = step h ∙ simp f in
-      sym (inv ∙ ap (shift i) g ∙ ap (λ (j : ℕ). Free (record { 0 = j })) (add-zero i))
-
-  module _ (h : i < n) (z : getD (w .counts) i 0 ≡ 0 → ⊥) (b : Bool)
-      (e : b ≡ equalB (getD (w .counts) i 0) (take (getD (w .lengths) i 0) (drop (total (take i (w .lengths))) (w .text))) t) where
-    pub choose-equal : b ≡ true → Equal (record { 0 = i }) ≡ choose t (entriesOf n w)
-    choose-equal y =
-        let f : eqb (getD (w .counts) i 0) 0 ≡ false = ne-eqb (getD (w .counts) i 0) 0 z in
-        let g : choose t (drop i (entriesOf n w)) ≡ Equal (record { 0 = 0 }) = step h ∙ simp (f, sym e ∙ y) in
-        sym (inv ∙ ap (shift i) g ∙ ap (λ (j : ℕ). Equal (record { 0 = j })) (add-zero i))
-
-    pub choose-next : b ≡ false → choose t (entriesOf n w) ≡ shift (i + 1) (choose t (drop (i + 1) (entriesOf n w)))
-    choose-next y =
-        let f : eqb (getD (w .counts) i 0) 0 ≡ false = ne-eqb (getD (w .counts) i 0) 0 z in
-        let g : choose t (drop i (entriesOf n w)) ≡ shift 1 (choose t (drop (suc i) (entriesOf n w))) = step h ∙ simp (f, sym e ∙ y) in
-        inv ∙ ap (shift i) g ∙ shift-more i (choose t (drop (suc i) (entriesOf n w))) ∙ rw (add-one i)
-
-  pub choose-added : n ≤ i → i ≤ n → Added ≡ choose t (entriesOf n w)
-  choose-added h h' =
-      let es : List Entry = entriesOf n w in
-      let l : i ≡ length es = omega (arith, length-entries n w fit) in
-      sym (inv ∙ ap (λ (j : ℕ). shift i (choose t (drop j es))) l ∙ ap (λ (x : List Entry). shift i (choose t x)) (drop-length es))
 
 -- ---- what is known of the entry chosen
 
@@ -113,16 +48,6 @@ In t es Added = Unit {0}
 
 true-false : _≡_ {A = Bool} false true → ⊥
 true-false q = let y : _≡_ {A = ℕ} 0 1 = cc in omega arith
-
-pub same-eq : (xs ys : List ℕ) → sameBytes xs ys ≡ true → xs ≡ ys
-same-eq [] [] e = refl
-same-eq [] (y ∷ ys) e = absurd (true-false e)
-same-eq (x ∷ xs) [] e = absurd (true-false e)
-same-eq (x ∷ xs) (y ∷ ys) e = go (eqb x y) refl (same-eq xs ys) e
-  where
-    go : (b : Bool) → eqb x y ≡ b → (sameBytes xs ys ≡ true → xs ≡ ys) → (b && sameBytes xs ys) ≡ true → x ∷ xs ≡ y ∷ ys
-    go true f h g = ap₂ (λ (a : ℕ) (l : List ℕ). a ∷ l) (eqb-true x y f) (h g)
-    go false f h g = absurd (true-false g)
 
 equal-is : (c : ℕ) (u t : List ℕ) → equalB c u t ≡ true → (c < 65535) × (u ≡ t)
 equal-is c u t e = go (ltb c 65535) refl e
@@ -177,3 +102,23 @@ choose-place t (e ∷ es) =
     go true b h = refl
     go false true h = refl
     go false false h = ap (λ (i : ℕ). i + 1) h ∙ place-next e es (choose t es)
+
+-- the choice by its place
+module _ (n : ℕ) (w : Rooms) (fit : Fit n w) (t : List ℕ) where
+  at-place : (x : Chosen) → In t (entriesOf n w) x → chosenAt n (w .counts) (placeIn (entriesOf n w) x) ≡ x
+  at-place (Free k) h =
+      let hk : k .0 < n = omega (arith, h .0, length-entries n w fit) in
+      ap₂ (λ (a b : Bool). (if a then Added else (if b then Free k else Equal k))) (lt-leb n (k .0) hk)
+      (eq-eqb (getD (w .counts) (k .0) 0) 0 (sym (count-at n w fit (k .0) hk) ∙ h .1))
+  at-place (Equal k) h =
+      let hk : k .0 < n = omega (arith, h .0, length-entries n w fit) in
+      ap₂ (λ (a b : Bool). (if a then Added else (if b then Free k else Equal k))) (lt-leb n (k .0) hk)
+      (ne-eqb (getD (w .counts) (k .0) 0) 0 (λ (e : getD (w .counts) (k .0) 0 ≡ 0). omega (arith, h .1, count-at n w fit (k .0) hk)))
+  at-place Added h =
+      let k : ℕ = length (entriesOf n w) in
+      ap (λ (a : Bool). (if a then Added else (if eqb (getD (w .counts) k 0) 0 then Free (record { 0 = k }) else Equal (record { 0 = k }))))
+      (le-leb n k (omega (arith, length-entries n w fit)))
+
+  pub chosen-at : (k : ℕ) → k ≡ firstFreeOrEqual t (entriesOf n w) → chosenAt n (w .counts) k ≡ choose t (entriesOf n w)
+  chosen-at k e =
+      ap (chosenAt n (w .counts)) (e ∙ choose-place t (entriesOf n w)) ∙ at-place (choose t (entriesOf n w)) (choose-in t (entriesOf n w))

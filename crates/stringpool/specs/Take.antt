@@ -7,35 +7,12 @@ use lib.IntN.{ℤ, pos}
 use Rattle.common.specs.Choice.{if_then_else_, _<?_, _≤?_, _=?_}
 use Rattle.common.specs.Answers.{Answer, gives, refused, nowhere, outcome}
 use Rattle.common.specs.Refusals.{refusedBy}
+pub use Rattle.pool_entries.specs.Choose.{sameBytes, equal, firstPlace, Chooser, firstFreeOrEqual}
 use Rattle.stringpool.specs.Pool.{Entry, entry, Rooms, entriesOf, texts, putBack, entryRoom, free, onSound}
 use Rattle.stringpool.specs.declared.pool.StringPool.{StringPool}
 use Rattle.stringpool.specs.declared.takes.Taken.{Taken}
 use Rattle.stringpool.specs.declared.takes.Taken.the-variants as taken
 use Rattle.common.specs.Sizes.{maxBytes, maxEntries}
-
--- "the same bytes"
-abbrev pub sameBytes : List ℕ → List ℕ → Bool
-sameBytes [] [] = true
-sameBytes [] (y ∷ ys) = false
-sameBytes (x ∷ xs) [] = false
-sameBytes (x ∷ xs) (y ∷ ys) = x =? y && sameBytes xs ys
-
--- "that has the same bytes and a count below 65,535"
-abbrev pub equal : List ℕ → Entry → Bool
-equal t e = sameBytes (e .text) t && e .count <? 65535
-
--- the place of the first that passes; with none, the place after the last
-abbrev pub firstPlace : (Entry → Bool) → List Entry → ℕ
-firstPlace f [] = 0
-firstPlace f (e ∷ es) = if f e then 0 else firstPlace f es + 1
-
--- a text and the entries give a place; that after the last is a new entry's
-abbrev pub Chooser : Type 0
-Chooser = List ℕ → List Entry → ℕ
-
--- "in entry order, the first entry that is free (count 0) or that has the same bytes and a count below 65,535"
-abbrev pub firstFreeOrEqual : Chooser
-firstFreeOrEqual t es = firstPlace (λ (e : Entry). free e || equal t e) es
 
 -- "An equal one counts up. A free one gets the text and count 1, and any old bytes go."
 abbrev pub increased : List ℕ → Entry → Entry

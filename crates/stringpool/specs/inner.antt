@@ -1,10 +1,8 @@
 -- What the contracts of private functions say; the public ones cite nothing of it.
 pub mod Drop
 pub mod Entries
-pub mod Halved
 pub mod Load
 pub mod Look
-pub mod Passing
 pub mod Plan
 pub mod Refs
 pub mod Show

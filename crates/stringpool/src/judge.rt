@@ -1,16 +1,10 @@
 // Whether a pool's state is within the sizes and sound, and how many bytes its texts use.
-use crate::adding::add_up;
 use crate::pool::StringPool;
 use common::Refusal;
-use common::sizes::MAX_BYTES;
-use common::sizes::MAX_CODEPAGE;
-use common::sizes::MAX_ENTRIES;
+use pool_entries::State;
 ghost use mathlib.Core.Path.{_≡_};
-ghost use Prim.Native.Nat.{_*_, _≤_};
-ghost use lib.ListN.{length, take, drop};
-ghost use Rattle.common.specs.Lists.{total};
 ghost use Rattle.stringpool.specs.Pool.{rooms};
-ghost use Rattle.stringpool.specs.inner.Sound.{fitsB, smallB, allSmall, usedOf, judgeOf};
+ghost use Rattle.stringpool.specs.inner.Sound.{judgeOf};
 
 // Of a sound pool, how many bytes its texts use.
 pub(crate) enum Judged {
@@ -18,96 +12,14 @@ pub(crate) enum Judged {
     Refused(Refusal),
 }
 
-pub(crate) enum Used {
-    Bytes(usize),
-    Unsound,
-}
-
 // Every call on a pool judges its text room's size first, and then its soundness.
 pub(crate) fn judge(p: StringPool, lengths: &[u32], counts: &[u16], text: &[u8]) -> Judged
     ensures { λ r. ⌜ r ≡ judgeOf p (rooms (now (lengths .entry)) (now (counts .entry)) (now (text .entry))) ⌝ }
 {
-    if text.len() > MAX_BYTES {
-        return Judged::Refused(Refusal::OverSize);
+    let state = pool_entries::judge(p.num_strings, p.codepage, lengths, counts, text);
+    match state {
+        State::OverSize => Judged::Refused(Refusal::OverSize),
+        State::Unsound => Judged::Refused(Refusal::Unsound),
+        State::Sound(used) => Judged::Sound(used),
     }
-    if !fits(p, lengths, counts) {
-        return Judged::Refused(Refusal::Unsound);
-    }
-    let used = used_after(p.num_strings, lengths, counts, text.len(), 0, 0);
-    match used {
-        Used::Unsound => Judged::Refused(Refusal::Unsound),
-        Used::Bytes(bytes) => Judged::Sound(bytes),
-    }
-}
-
-// Entries fit their rooms and number at most 16,777,215, and the code page has 31 bits.
-pub(crate) fn fits(p: StringPool, lengths: &[u32], counts: &[u16]) -> bool
-    ensures { λ r. ⌜ r ≡ fitsB p (now (lengths .entry)) (now (counts .entry)) ⌝ }
-{
-    let n = p.num_strings;
-    if n > lengths.len() {
-        return false;
-    }
-    if n > counts.len() {
-        return false;
-    }
-    if n > MAX_ENTRIES {
-        return false;
-    }
-    p.codepage <= MAX_CODEPAGE
-}
-
-// The bytes that n entries use in the room, where those before `at` use start bytes and none of them is free and long.
-pub(crate) fn used_after(
-    n: usize,
-    lengths: &[u32],
-    counts: &[u16],
-    room: usize,
-    at: usize,
-    start: usize,
-) -> Used
-    requires { ⌜ (n ≤ length (now lengths)) × (n ≤ length (now counts)) × (n ≤ 16777215) × (at ≤ n) ⌝ }
-    requires { ⌜ (start ≡ total (take at (now lengths))) × (start ≤ 4294967295 * at)
-        × (allSmall (take n (now lengths)) (take n (now counts)) ≡ allSmall (drop at (take n (now lengths))) (drop at (take n (now counts)))) ⌝ }
-    ensures { λ r. ⌜ r ≡ usedOf n (now (lengths .entry)) (now (counts .entry)) room ⌝ }
-{
-    let s = add_up(lengths, at, n);
-    let used = start + s.sum as usize;
-    if used > room {
-        return Used::Unsound;
-    }
-    if s.high == 0 {
-        return Used::Bytes(used);
-    }
-    if all_small(n, lengths, counts) {
-        return Used::Bytes(used);
-    }
-    Used::Unsound
-}
-
-// Whether each free entry, of n, has at most 65,535 bytes: asked only where some entry has more.
-fn all_small(n: usize, lengths: &[u32], counts: &[u16]) -> bool
-    requires { ⌜ (n ≤ length (now lengths)) × (n ≤ length (now counts)) ⌝ }
-    ensures { λ r. ⌜ r ≡ allSmall (take n (now (lengths .entry))) (take n (now (counts .entry))) ⌝ }
-{
-    let mut i = 0;
-    while i < n {
-        let size = lengths[i];
-        let count = counts[i];
-        if !small(size, count) {
-            return false;
-        }
-        i += 1;
-    }
-    true
-}
-
-// An entry with count 0 has at most 65,535 bytes.
-fn small(size: u32, count: u16) -> bool
-    ensures { λ r. ⌜ r ≡ smallB size count ⌝ }
-{
-    if count == 0 {
-        return size <= 65535;
-    }
-    true
 }

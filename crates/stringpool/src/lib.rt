@@ -1,5 +1,4 @@
 // The string pool: entries with a reference count each, their texts end to end in a lent text room.
-mod adding;
 mod choice;
 mod drops;
 mod entry;

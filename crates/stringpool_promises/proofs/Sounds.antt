@@ -12,11 +12,12 @@ use Rattle.stringpool.specs.declared.pool.StringPool.{StringPool}
 use lib.ListN.{length, take}
 use borrow.Author.Tests.{le-ltb, le-leb}
 use Rattle.stringpool.specs.Pool.{Rooms, sound}
-use Rattle.stringpool.specs.inner.Sound.{allSmall, fitsB, soundB}
+use Rattle.stringpool.specs.inner.Sound.{allSmall, soundB}
+use Rattle.pool_entries.specs.inner.Sound.{fitsB}
 use Rattle.stringpool.proofs.Sound.{SoundFit, sound-fit}
 use Rattle.stringpool.proofs.House.{sound-same}
 
-fits-yes : (p : StringPool) (w : Rooms) → SoundFit p w → fitsB p (w .lengths) (w .counts) ≡ true
+fits-yes : (p : StringPool) (w : Rooms) → SoundFit p w → fitsB (p .«num_strings») (p .codepage) (w .lengths) (w .counts) ≡ true
 unfolding fitsB
 fits-yes p w f =
     let a : ltb (length (w .lengths)) (p .«num_strings») ≡ false = le-ltb _ _ (f .fit .lengths) in
@@ -28,7 +29,7 @@ fits-yes p w f =
 pub fit-sound : (p : StringPool) (w : Rooms) → SoundFit p w → sound p w ≡ true
 fit-sound p w f =
     let n : ℕ = p .«num_strings» in
-    let a : fitsB p (w .lengths) (w .counts) ≡ true = fits-yes p w f in
+    let a : fitsB n (p .codepage) (w .lengths) (w .counts) ≡ true = fits-yes p w f in
     let e : leb (total (take n (w .lengths))) (length (w .text)) ≡ true = le-leb _ _ (f .fit .text) in
     let g : soundB p w ≡ true = simp (a, f .small, e) in
     sound-same p w ∙ g

@@ -3,17 +3,9 @@ use Prim.Native.Nat.{ℕ, _+_, _-_, _≤_, max}
 use mathlib.Core.List.{List, [], _∷_, _++_, map}
 use lib.ListN.{length, take, drop, replicate}
 use Rattle.common.specs.Lists.{total}
-pub use Rattle.stringpool.specs.Pool.{Entry, Rooms, rooms, cut, texts}
-
--- n entries fit the rooms, and their lengths the text
-pub record Fit (n : ℕ) (w : Rooms) : Type 0 where
-  pub lengths : n ≤ length (w .lengths)
-  pub counts : n ≤ length (w .counts)
-  pub text : total (take n (w .lengths)) ≤ length (w .text)
-
--- the first n entries of the rooms
-abbrev pub entriesOf : ℕ → Rooms → List Entry
-entriesOf n w = cut (take n (w .lengths)) (take n (w .counts)) (w .text)
+pub use Rattle.pool_entries.specs.Entries.{Entry, Rooms, rooms, cut, entriesOf}
+pub use Rattle.pool_entries.specs.inner.Fit.{Fit}
+pub use Rattle.stringpool.specs.Pool.{texts}
 
 abbrev pub lengthsOf : List Entry → List ℕ
 lengthsOf es = map (λ (e : Entry). length (e .text)) es

@@ -41,6 +41,10 @@ choose t [] = Added
 choose t (e ∷ es) =
     (if eqb (e .count) 0 then Free (record { 0 = 0 }) else (if equalB (e .count) (e .text) t then Equal (record { 0 = 0 }) else shift 1 (choose t es)))
 
+-- the choice by its place: past the last a new entry, else a free or an equal one
+abbrev pub chosenAt : ℕ → List ℕ → ℕ → Chosen
+chosenAt n cs k = (if n ≤? k then Added else (if eqb (getD cs k 0) 0 then Free (record { 0 = k }) else Equal (record { 0 = k })))
+
 -- the place that is chosen
 abbrev pub placeIn : List Entry → Chosen → ℕ
 placeIn es (Free k) = k .0

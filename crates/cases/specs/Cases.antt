@@ -62,7 +62,7 @@ h = case (bits (pos 0x2900)) (type (Str 0))
 abbrev pub i : Case
 i = case (bits (pos 0x404)) (type Binary)
 
--- j bits 0x503: 13
+-- j bits 0x503: 13 at column 0
 abbrev pub j : Case
 j = case (bits (pos 0x503)) (refuses 13 (column 0))
 

@@ -12,6 +12,8 @@ pub use crate::pools::Pool;
 pub use crate::pools::Take;
 pub use crate::pools::case_k;
 pub use crate::pools::case_l;
+pub use crate::pools::loaded;
+pub use crate::pools::taken_on;
 pub use crate::tables::Bytes;
 pub use crate::tables::case_e;
 pub use crate::tables::case_f;

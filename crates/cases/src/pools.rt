@@ -25,16 +25,48 @@ pub struct Take {
     pub text: [u8; 6],
 }
 
-pub fn case_k() -> Pool
-    ensures { λ r. ⌜ poolIn (loadedAs (r .answer), rooms (r .lengths) (r .counts) (r .text)) ≡ cases.k .said ⌝ }
+// A load into rooms for four entries and six bytes.
+pub fn loaded(pool: &[u8], texts: &[u8]) -> Pool
+    ensures { λ r. ⌜ (loadedAs (r .answer), rooms (r .lengths) (r .counts) (r .text)) ≡ loadOutcome (now (pool .entry)) (now (texts .entry)) room ⌝ }
 {
-    load_k()
+    let mut lengths = [0u32; 4];
+    let mut counts = [0u16; 4];
+    let mut text = [0u8; 6];
+    let answer = StringPool::load(pool, texts, &mut lengths, &mut counts, &mut text);
+    Pool {
+        answer,
+        lengths,
+        counts,
+        text,
+    }
 }
 
-pub fn case_l() -> Take
-    ensures { λ r. ⌜ takenIn (takenAs (r .answer), rooms (r .lengths) (r .counts) (r .text)) ≡ cases.l .said ⌝ }
+// A take on what was loaded.
+pub fn taken_on(pool: Pool, new: &[u8]) -> Take
+    ensures { λ r. ⌜ takenIn (takenAs (r .answer), rooms (r .lengths) (r .counts) (r .text))
+        ≡ takeOn (now (new .entry)) (loadedAs (pool .answer), rooms (pool .lengths) (pool .counts) (pool .text)) ⌝ }
 {
-    taken_on(load_k(), b"")
+    let mut lengths = pool.lengths;
+    let mut counts = pool.counts;
+    let mut text = pool.text;
+    let before = pool.answer;
+    match before {
+        Loaded::Ready(state) => {
+            let answer = state.incref(&mut lengths, &mut counts, &mut text, new);
+            Take {
+                answer,
+                lengths,
+                counts,
+                text,
+            }
+        }
+        Loaded::Refused(why) => Take {
+            answer: Taken::Refused(why),
+            lengths,
+            counts,
+            text,
+        },
+    }
 }
 
 fn load_k() -> Pool
@@ -62,41 +94,17 @@ fn load_k() -> Pool
         0,
         0,
     ];
-    let mut lengths = [0u32; 4];
-    let mut counts = [0u16; 4];
-    let mut text = [0u8; 6];
-    let answer = StringPool::load(&pool, b"Name", &mut lengths, &mut counts, &mut text);
-    Pool {
-        answer,
-        lengths,
-        counts,
-        text,
-    }
+    loaded(&pool, b"Name")
 }
 
-fn taken_on(pool: Pool, new: &[u8]) -> Take
-    ensures { λ r. ⌜ takenIn (takenAs (r .answer), rooms (r .lengths) (r .counts) (r .text))
-        ≡ takeOn (now (new .entry)) (loadedAs (pool .answer), rooms (pool .lengths) (pool .counts) (pool .text)) ⌝ }
+pub fn case_k() -> Pool
+    ensures { λ r. ⌜ poolIn (loadedAs (r .answer), rooms (r .lengths) (r .counts) (r .text)) ≡ cases.k .said ⌝ }
 {
-    let mut lengths = pool.lengths;
-    let mut counts = pool.counts;
-    let mut text = pool.text;
-    let before = pool.answer;
-    match before {
-        Loaded::Ready(state) => {
-            let answer = state.incref(&mut lengths, &mut counts, &mut text, new);
-            Take {
-                answer,
-                lengths,
-                counts,
-                text,
-            }
-        }
-        Loaded::Refused(why) => Take {
-            answer: Taken::Refused(why),
-            lengths,
-            counts,
-            text,
-        },
-    }
+    load_k()
+}
+
+pub fn case_l() -> Take
+    ensures { λ r. ⌜ takenIn (takenAs (r .answer), rooms (r .lengths) (r .counts) (r .text)) ≡ cases.l .said ⌝ }
+{
+    taken_on(load_k(), b"")
 }

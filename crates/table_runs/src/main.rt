@@ -1,13 +1,14 @@
-// Runs document 01's cases of columns and rows, e to j and m, and their edges, through the public calls, and writes what they give.
-mod bits;
+// The edges of tables, run through the public calls. A line says what was handed in and what came of it; an output is lent from
+// bytes EE and shown whole, so that a byte changed by a refused call would be seen.
 mod cells;
-mod checks;
-mod show;
-mod tables;
+mod layouts;
+mod order;
+mod said;
+mod writes;
 
 fn main() {
     cells::run();
-    tables::run();
-    bits::run();
-    checks::run();
+    writes::run();
+    layouts::run();
+    order::run();
 }

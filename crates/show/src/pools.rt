@@ -1,0 +1,59 @@
+// The entries of a pool.
+use crate::answers::refusal;
+use crate::numbers::number;
+use crate::numbers::words;
+use stringpool::Counted;
+use stringpool::StringPool;
+
+fn quoted(text: &[u8]) {
+    words(b"\"");
+    words(text);
+    words(b"\"");
+}
+
+fn times(count: u16) {
+    match count {
+        1 => words(b" once"),
+        2 => words(b" twice"),
+        _ => {
+            words(b" ");
+            number(count as u64);
+            words(b" times");
+        }
+    }
+}
+
+fn held(count: u16, text: &[u8]) {
+    if count == 0 {
+        words(b"free");
+        return;
+    }
+    quoted(text);
+    times(count);
+}
+
+fn entry(p: StringPool, lengths: &[u32], counts: &[u16], text: &[u8], reference: i32) {
+    match p.refcount(lengths, counts, text, reference) {
+        Counted::Is(count) => held(count, p.get(lengths, counts, text, reference)),
+        Counted::Refused(r) => refusal(r),
+    }
+}
+
+fn further(p: StringPool, lengths: &[u32], counts: &[u16], text: &[u8], reference: i32) {
+    words(b", ");
+    entry(p, lengths, counts, text, reference);
+}
+
+// What a pool's references show and how often they are counted, of the first three.
+pub fn entries(p: StringPool, lengths: &[u32], counts: &[u16], text: &[u8]) {
+    let n = p.num_strings;
+    if 0 < n {
+        entry(p, lengths, counts, text, 1);
+    }
+    if 1 < n {
+        further(p, lengths, counts, text, 2);
+    }
+    if 2 < n {
+        further(p, lengths, counts, text, 3);
+    }
+}

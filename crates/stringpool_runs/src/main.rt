@@ -12,6 +12,7 @@ use stringpool::StringPool;
 use stringpool::StringRef;
 use stringpool::Taken;
 use stringpool::Written;
+ghost use Prim.Native.Nat.{_≤_};
 
 fn say(words: &[u8]) {
     io::write_all(STDOUT_FILENO, words);
@@ -22,10 +23,21 @@ fn say_number(number: u64) {
     say(b" ");
 }
 
-fn say_refused(why: Refusal) {
+fn say_why(why: Refusal) {
     say(b"refused ");
     say_number(why.number() as u64);
+}
+
+fn say_refused(why: Refusal) {
+    say_why(why);
     say(b"\n");
+}
+
+// What is called, on what.
+fn announce(call: &[u8], what: &[u8]) {
+    say(call);
+    say(what);
+    say(b": ");
 }
 
 fn say_byte(byte: u8) {
@@ -76,7 +88,11 @@ fn say_rooms(s: Lent) {
     say(b"counts ");
     say_counts(&counts);
     say(b"text ");
-    say_bytes(&text);
+    say_line(&text);
+}
+
+fn say_line(bytes: &[u8]) {
+    say_bytes(bytes);
     say(b"\n");
 }
 
@@ -128,9 +144,7 @@ fn load(what: &[u8], s: Lent, pool: &[u8], texts: &[u8]) -> Lent {
 }
 
 fn said_load(what: &[u8], loaded: Loaded, before: StringPool) -> StringPool {
-    say(b"load of ");
-    say(what);
-    say(b": ");
+    announce(b"load of ", what);
     match loaded {
         Loaded::Ready(p) => {
             say_pool(p);
@@ -143,15 +157,23 @@ fn said_load(what: &[u8], loaded: Loaded, before: StringPool) -> StringPool {
     }
 }
 
+// A load into rooms that no call has touched yet.
+fn try_load(what: &[u8], pool: &[u8], texts: &[u8]) {
+    load(what, fresh(), pool, texts);
+}
+
+// The same, and what was loaded is written back.
+fn load_and_write(what: &[u8], pool: &[u8], texts: &[u8]) {
+    write(load(what, fresh(), pool, texts));
+}
+
 fn take(what: &[u8], s: Lent, new: &[u8]) -> Lent {
     let mut lengths = s.lengths;
     let mut counts = s.counts;
     let mut text = s.text;
-    let before = s.pool;
-    let taken = before.incref(&mut lengths, &mut counts, &mut text, new);
-    let p = said_take(what, taken, before);
+    let pool = taken(what, s.pool, &mut lengths, &mut counts, &mut text, new);
     let after = Lent {
-        pool: p,
+        pool,
         lengths,
         counts,
         text,
@@ -160,11 +182,22 @@ fn take(what: &[u8], s: Lent, new: &[u8]) -> Lent {
     after
 }
 
-fn said_take(what: &[u8], taken: Taken, before: StringPool) -> StringPool {
-    say(b"take of ");
-    say(what);
-    say(b": ");
-    match taken {
+// A take from lent rooms: what it answers is said, and the pool after it comes back.
+fn taken(
+    what: &[u8],
+    p: StringPool,
+    lengths: &mut [u32],
+    counts: &mut [u16],
+    text: &mut [u8],
+    new: &[u8],
+) -> StringPool {
+    let answer = p.incref(lengths, counts, text, new);
+    said_take(what, answer, p)
+}
+
+fn said_take(what: &[u8], answer: Taken, before: StringPool) -> StringPool {
+    announce(b"take of ", what);
+    match answer {
         Taken::Ref(r, q) => {
             say_reference(r);
             say_pool(q);
@@ -198,11 +231,9 @@ fn give_up(what: &[u8], s: Lent, number: i32) -> Lent {
     let mut lengths = s.lengths;
     let mut counts = s.counts;
     let mut text = s.text;
-    let before = s.pool;
-    let dropped = before.decref(&mut lengths, &mut counts, &mut text, number);
-    let p = said_drop(what, dropped, before);
+    let pool = given_up(what, s.pool, &mut lengths, &mut counts, &mut text, number);
     let after = Lent {
-        pool: p,
+        pool,
         lengths,
         counts,
         text,
@@ -211,11 +242,22 @@ fn give_up(what: &[u8], s: Lent, number: i32) -> Lent {
     after
 }
 
-fn said_drop(what: &[u8], dropped: Dropped, before: StringPool) -> StringPool {
-    say(b"drop of ");
-    say(what);
-    say(b": ");
-    match dropped {
+// A drop from lent rooms, likewise.
+fn given_up(
+    what: &[u8],
+    p: StringPool,
+    lengths: &mut [u32],
+    counts: &mut [u16],
+    text: &mut [u8],
+    number: i32,
+) -> StringPool {
+    let answer = p.decref(lengths, counts, text, number);
+    said_drop(what, answer, p)
+}
+
+fn said_drop(what: &[u8], answer: Dropped, before: StringPool) -> StringPool {
+    announce(b"drop of ", what);
+    match answer {
         Dropped::Done(q) => {
             say_pool(q);
             q
@@ -231,9 +273,8 @@ fn show(what: &[u8], s: Lent, number: i32) {
     let lengths = s.lengths;
     let counts = s.counts;
     let text = s.text;
-    say(b"show of ");
-    say(what);
-    say(b": text ");
+    announce(b"show of ", what);
+    say(b"text ");
     say_shown(s.pool, &lengths, &counts, &text, number);
 }
 
@@ -250,8 +291,8 @@ fn say_counted(counted: Counted) {
             say_number(count as u64);
         }
         Counted::Refused(why) => {
-            say(b"count refused ");
-            say_number(why.number() as u64);
+            say(b"count ");
+            say_why(why);
         }
     }
 }
@@ -270,111 +311,140 @@ fn say_written(written: Written, out: &[u8]) {
             say(b"bytes, output ");
         }
         Written::Refused(why) => {
-            say(b"refused ");
-            say_number(why.number() as u64);
+            say_why(why);
             say(b"output ");
         }
     }
-    say_bytes(out);
-    say(b"\n");
+    say_line(out);
 }
 
 // Both streams, written into outputs of 24 and 12 bytes that hold EE.
 fn write(s: Lent) {
-    let lengths = s.lengths;
-    let counts = s.counts;
-    let text = s.text;
-    let p = s.pool;
     let mut pool = [0xEEu8; 24];
     let mut texts = [0xEEu8; 12];
-    let first = p.write_pool(&lengths, &counts, &text, &mut pool);
-    say(b"write_pool: ");
-    say_written(first, &pool);
-    let second = p.write_data(&lengths, &counts, &text, &mut texts);
-    say(b"write_data: ");
-    say_written(second, &texts);
+    write_to(b": ", s, &mut pool, b": ", &mut texts);
 }
 
 // Both streams, into outputs that are one byte short.
 fn write_short(s: Lent) {
+    let mut pool = [0xEEu8; 19];
+    let mut texts = [0xEEu8; 3];
+    write_to(
+        b" to 19 bytes: ",
+        s,
+        &mut pool,
+        b" to 3 bytes: ",
+        &mut texts,
+    );
+}
+
+fn write_to(first: &[u8], s: Lent, pool: &mut [u8], second: &[u8], texts: &mut [u8]) {
     let lengths = s.lengths;
     let counts = s.counts;
     let text = s.text;
-    let p = s.pool;
-    let mut pool = [0xEEu8; 19];
-    let mut texts = [0xEEu8; 3];
-    let first = p.write_pool(&lengths, &counts, &text, &mut pool);
-    say(b"write_pool to 19 bytes: ");
-    say_written(first, &pool);
-    let second = p.write_data(&lengths, &counts, &text, &mut texts);
-    say(b"write_data to 3 bytes: ");
-    say_written(second, &texts);
+    write_pool_to(first, s.pool, &lengths, &counts, &text, pool);
+    write_data_to(second, s.pool, &lengths, &counts, &text, texts);
+}
+
+fn write_pool_to(
+    size: &[u8],
+    p: StringPool,
+    lengths: &[u32],
+    counts: &[u16],
+    text: &[u8],
+    out: &mut [u8],
+) {
+    say(b"write_pool");
+    say(size);
+    say_written(p.write_pool(lengths, counts, text, out), out);
+}
+
+fn write_data_to(
+    size: &[u8],
+    p: StringPool,
+    lengths: &[u32],
+    counts: &[u16],
+    text: &[u8],
+    out: &mut [u8],
+) {
+    say(b"write_data");
+    say(size);
+    say_written(p.write_data(lengths, counts, text, out), out);
 }
 
 fn case_k() {
-    let pool = [
-        0xE4u8,
-        4,
-        0,
-        0,
-        4,
-        0,
-        2,
-        0,
-        0,
-        0,
-        0,
-        0,
-        0,
-        0,
-        1,
-        0,
-        0,
-        0,
-        0,
-        0,
-    ];
-    let k = load(b"k", fresh(), &pool, b"Name");
-    show(b"1", k, 1);
-    show(b"2", k, 2);
-    show(b"3", k, 3);
-    show(b"4, past the last", k, 4);
+    let k = load(
+        b"k",
+        fresh(),
+        b"\xE4\x04\x00\x00\x04\x00\x02\x00\x00\x00\x00\x00\x00\x00\x01\x00\x00\x00\x00\x00",
+        b"Name",
+    );
+    show_four(k);
     write(k);
     write_short(k);
     say(b"l: ");
     take(b"the empty text", k, b"");
 }
 
+fn show_four(k: Lent) {
+    show(b"1", k, 1);
+    show(b"2", k, 2);
+    show(b"3", k, 3);
+    show(b"4, past the last", k, 4);
+}
+
 fn stray_bytes() {
-    let pool = [0u8, 0, 0, 0, 1, 0, 1, 0, 1, 2, 3];
-    write(load(b"an entry and no stray byte", fresh(), &pool[0..8], b"A"));
-    write(load(b"an entry and 1 stray byte", fresh(), &pool[0..9], b"A"));
-    load(b"an entry and 2 bytes", fresh(), &pool[0..10], b"A");
-    load(b"an entry and 3 bytes", fresh(), &pool, b"A");
-    write(load(
+    load_and_write(
+        b"an entry and no stray byte",
+        b"\x00\x00\x00\x00\x01\x00\x01\x00",
+        b"A",
+    );
+    load_and_write(
+        b"an entry and 1 stray byte",
+        b"\x00\x00\x00\x00\x01\x00\x01\x00\x01",
+        b"A",
+    );
+    try_load(
+        b"an entry and 2 bytes",
+        b"\x00\x00\x00\x00\x01\x00\x01\x00\x01\x02",
+        b"A",
+    );
+    try_load(
+        b"an entry and 3 bytes",
+        b"\x00\x00\x00\x00\x01\x00\x01\x00\x01\x02\x03",
+        b"A",
+    );
+    load_and_write(
         b"an entry, and data after its text",
-        fresh(),
-        &pool[0..8],
+        b"\x00\x00\x00\x00\x01\x00\x01\x00",
         b"ABC",
-    ));
+    );
+}
+
+// An entry A with that count.
+fn one_a(count: u16) -> Lent {
+    Lent {
+        pool: pool_of(1, false),
+        lengths: [1u32, 9, 9, 9],
+        counts: [count, 8, 8, 8],
+        text: [0x41u8, 7, 7, 7, 7, 7],
+    }
 }
 
 fn full_count() {
     say(b"an entry A with a count of 65535\n");
-    let s = Lent {
-        pool: pool_of(1, false),
-        lengths: [1u32, 9, 9, 9],
-        counts: [65535u16, 8, 8, 8],
-        text: [0x41u8, 7, 7, 7, 7, 7],
-    };
-    let t = take(b"A", s, b"A");
+    let t = take(b"A", one_a(65535), b"A");
     let u = give_up(b"1", t, 1);
     take(b"A", u, b"A");
 }
 
 fn free_bytes() {
-    let pool = [0u8, 0, 0, 0, 3, 0, 0, 0, 1, 0, 1, 0];
-    let s = load(b"a free entry XYZ, and A", fresh(), &pool, b"XYZA");
+    let s = load(
+        b"a free entry XYZ, and A",
+        fresh(),
+        b"\x00\x00\x00\x00\x03\x00\x00\x00\x01\x00\x01\x00",
+        b"XYZA",
+    );
     show(b"1", s, 1);
     write(s);
     give_up(b"1", s, 1);
@@ -405,96 +475,70 @@ fn last_drop() {
 }
 
 fn short_wide() {
-    let pool = [0u8, 0, 0, 0, 0, 0, 1, 0, 1, 0, 0, 0];
-    write(load(b"a 4-byte length of 1", fresh(), &pool, b"A"));
+    load_and_write(
+        b"a 4-byte length of 1",
+        b"\x00\x00\x00\x00\x00\x00\x01\x00\x01\x00\x00\x00",
+        b"A",
+    );
 }
 
-// Five entries of two bytes, and two stray bytes.
-const SEVERAL: [u8; 26] = [
-    0,
-    0,
-    0,
-    0,
-    2,
-    0,
-    1,
-    0,
-    2,
-    0,
-    1,
-    0,
-    2,
-    0,
-    1,
-    0,
-    2,
-    0,
-    1,
-    0,
-    2,
-    0,
-    1,
-    0,
-    9,
-    9,
-];
-
+// Entries of two bytes, and two stray bytes after five.
 fn several_ways() {
-    let pool = SEVERAL;
-    load(b"3 bytes, no data", fresh(), &pool[0..3], b"");
-    load(b"five entries, a cut one, no data", fresh(), &pool, b"");
-    load(b"five entries, no data", fresh(), &pool[0..24], b"");
-    load(
+    try_load(b"3 bytes, no data", b"\x00\x00\x00", b"");
+    try_load(
+        b"five entries, a cut one, no data",
+        b"\x00\x00\x00\x00\x02\x00\x01\x00\x02\x00\x01\x00\x02\x00\x01\x00\x02\x00\x01\x00\x02\x00\x01\x00\x09\x09",
+        b"",
+    );
+    try_load(
+        b"five entries, no data",
+        b"\x00\x00\x00\x00\x02\x00\x01\x00\x02\x00\x01\x00\x02\x00\x01\x00\x02\x00\x01\x00\x02\x00\x01\x00",
+        b"",
+    );
+}
+
+fn several_rooms() {
+    try_load(
         b"four entries of 8 bytes, of which the data has 7",
-        fresh(),
-        &pool[0..20],
+        b"\x00\x00\x00\x00\x02\x00\x01\x00\x02\x00\x01\x00\x02\x00\x01\x00\x02\x00\x01\x00",
         b"ABCDEFG",
     );
-    load(
+    try_load(
         b"four entries of 8 bytes, all there",
-        fresh(),
-        &pool[0..20],
+        b"\x00\x00\x00\x00\x02\x00\x01\x00\x02\x00\x01\x00\x02\x00\x01\x00\x02\x00\x01\x00",
         b"ABCDEFGH",
     );
-    load(
+    try_load(
         b"three entries of 6 bytes",
-        fresh(),
-        &pool[0..16],
+        b"\x00\x00\x00\x00\x02\x00\x01\x00\x02\x00\x01\x00\x02\x00\x01\x00",
         b"ABCDEF",
     );
 }
 
 fn huge_lengths() {
-    let half = [0u8, 0, 0, 0, 0, 0, 1, 0, 5, 5];
-    let huge = [
-        0u8,
-        0,
-        0,
-        0,
-        0,
-        0,
-        1,
-        0,
-        255,
-        255,
-        255,
-        255,
-        0,
-        0,
-        1,
-        0,
-        255,
-        255,
-        255,
-        255,
-    ];
-    load(
+    try_load(
         b"a 4-byte length of which 2 bytes are there",
-        fresh(),
-        &half,
+        b"\x00\x00\x00\x00\x00\x00\x01\x00\x05\x05",
         b"",
     );
-    load(b"two lengths of FFFFFFFF", fresh(), &huge, b"AB");
+    try_load(
+        b"two lengths of FFFFFFFF",
+        b"\x00\x00\x00\x00\x00\x00\x01\x00\xFF\xFF\xFF\xFF\x00\x00\x01\x00\xFF\xFF\xFF\xFF",
+        b"AB",
+    );
+}
+
+// A take, and then one of "C".
+fn two_takes(
+    what: &[u8],
+    p: StringPool,
+    lengths: &mut [u32],
+    counts: &mut [u16],
+    text: &mut [u8],
+    new: &[u8],
+) {
+    let q = taken(what, p, lengths, counts, text, new);
+    taken(b"C", q, lengths, counts, text, b"C");
 }
 
 fn unequal_rooms(wide: bool) {
@@ -502,25 +546,22 @@ fn unequal_rooms(wide: bool) {
     let mut counts = [1u16, 1, 8];
     let mut text = [0x41u8, 0x42, 0xEE];
     say(b"A and B, rooms for four lengths and three counts\n");
-    let first = pool_of(2, wide).incref(&mut lengths, &mut counts, &mut text, b"");
-    let p = said_take(b"the empty text", first, pool_of(2, wide));
-    let second = p.incref(&mut lengths, &mut counts, &mut text, b"C");
-    said_take(b"C", second, p);
+    two_takes(
+        b"the empty text",
+        pool_of(2, wide),
+        &mut lengths,
+        &mut counts,
+        &mut text,
+        b"",
+    );
     say_lengths(&lengths);
     say_counts(&counts);
-    say_bytes(&text);
-    say(b"\n");
+    say_line(&text);
 }
 
 fn full_text() {
     say(b"A in a text room of six bytes\n");
-    let s = Lent {
-        pool: pool_of(1, false),
-        lengths: [1u32, 9, 9, 9],
-        counts: [1u16, 8, 8, 8],
-        text: [0x41u8, 7, 7, 7, 7, 7],
-    };
-    let t = take(b"BCDEF, which fills it", s, b"BCDEF");
+    let t = take(b"BCDEF, which fills it", one_a(1), b"BCDEF");
     let u = take(b"G, for which there is no room", t, b"G");
     take(b"the empty text, for which there is", u, b"");
 }
@@ -541,16 +582,34 @@ fn many(long: bool) {
     let mut lengths = [0u32; 65536];
     let mut counts = [1u16; 65536];
     let mut text = [7u8; 2];
-    let before = pool_of(65535, long);
-    say_pool(before);
-    let first = before.incref(&mut lengths, &mut counts, &mut text, b"B");
-    let p = said_take(b"B", first, before);
-    let second = p.incref(&mut lengths, &mut counts, &mut text, b"C");
-    said_take(b"C", second, p);
-    say_lengths(&lengths[65533..65536]);
-    say_counts(&counts[65533..65536]);
-    say_bytes(&text);
-    say(b"\n");
+    say_pool(pool_of(65535, long));
+    two_takes(
+        b"B",
+        pool_of(65535, long),
+        &mut lengths,
+        &mut counts,
+        &mut text,
+        b"B",
+    );
+    say_last(&lengths, &counts);
+    say_line(&text);
+}
+
+// Where the last three of n start.
+fn last_three(n: usize) -> usize
+    ensures { λ r. ⌜ r ≤ n ⌝ }
+{
+    if n < 3 {
+        return 0;
+    }
+    n - 3
+}
+
+fn say_last(lengths: &[u32], counts: &[u16]) {
+    let from = last_three(lengths.len());
+    say_lengths(&lengths[from..]);
+    let start = last_three(counts.len());
+    say_counts(&counts[start..]);
 }
 
 fn long_text(size: usize) {
@@ -560,22 +619,38 @@ fn long_text(size: usize) {
     let new = [0x41u8; 70000];
     if size <= 70000 {
         say_number(size as u64);
-        let taken = pool_of(0, false).incref(&mut lengths, &mut counts, &mut text, &new[0..size]);
-        let p = said_take(b"so many bytes", taken, pool_of(0, false));
-        long_written(p, &lengths, &counts, &text);
-        let dropped = p.decref(&mut lengths, &mut counts, &mut text, 1);
-        said_drop(b"1", dropped, p);
-        say_bytes(&text[0..2]);
-        say_bytes(&text[69999..70001]);
-        say(b"\n");
+        come_and_go(&mut lengths, &mut counts, &mut text, &new[0..size]);
     }
+}
+
+// A text is taken into an empty pool, written, shown and dropped.
+fn come_and_go(lengths: &mut [u32], counts: &mut [u16], text: &mut [u8], new: &[u8]) {
+    let p = taken(
+        b"so many bytes",
+        pool_of(0, false),
+        lengths,
+        counts,
+        text,
+        new,
+    );
+    long_written(p, lengths, counts, text);
+    given_up(b"1", p, lengths, counts, text, 1);
+    say_ends(text);
+}
+
+// The first two bytes, and the last two.
+fn say_ends(text: &[u8]) {
+    let n = text.len();
+    if n < 2 {
+        return;
+    }
+    say_bytes(&text[0..2]);
+    say_line(&text[n - 2..]);
 }
 
 fn long_written(p: StringPool, lengths: &[u32], counts: &[u16], text: &[u8]) {
     let mut out = [0xEEu8; 13];
-    let written = p.write_pool(lengths, counts, text, &mut out);
-    say(b"write_pool: ");
-    say_written(written, &out);
+    write_pool_to(b": ", p, lengths, counts, text, &mut out);
     say(b"show of 1: length ");
     say_number(p.get(lengths, counts, text, 1).len() as u64);
     say(b"\n");
@@ -625,9 +700,7 @@ fn long_free(size: u32) {
 }
 
 fn say_made(what: &[u8], number: i32) {
-    say(b"StringRef::new of ");
-    say(what);
-    say(b": ");
+    announce(b"StringRef::new of ", what);
     match StringRef::new(number) {
         Made::Ref(r) => {
             say_reference(r);
@@ -647,12 +720,7 @@ fn references() {
 
 fn ranges() {
     say(b"A once\n");
-    let s = Lent {
-        pool: pool_of(1, false),
-        lengths: [1u32, 9, 9, 9],
-        counts: [1u16, 8, 8, 8],
-        text: [0x41u8, 7, 7, 7, 7, 7],
-    };
+    let s = one_a(1);
     show(b"0", s, 0);
     show(b"16777216", s, 16_777_216);
     show(b"16777215", s, 16_777_215);
@@ -667,24 +735,29 @@ fn say_pooled(pooled: Pooled) {
     }
 }
 
-fn pages() {
-    say(b"new with code page 1252: ");
-    say_pooled(StringPool::new(1252));
-    say(b"new with code page 2147483648: ");
-    say_pooled(StringPool::new(2_147_483_648));
-    say(b"set_codepage to 2147483647: ");
-    set_page(pool_of(1, true), 2_147_483_647);
-    say(b"set_codepage to 2147483648: ");
-    set_page(pool_of(1, true), 2_147_483_648);
-    say(b"set_codepage to 2147483648 of two entries in rooms for one: ");
-    set_page(pool_of(2, true), 2_147_483_648);
+fn say_new(what: &[u8], page: u32) {
+    announce(b"new with code page ", what);
+    say_pooled(StringPool::new(page));
 }
 
-fn set_page(p: StringPool, page: u32) {
+fn set_page(what: &[u8], p: StringPool, page: u32) {
     let lengths = [1u32];
     let counts = [1u16];
     let text = [0x41u8];
+    announce(b"set_codepage to ", what);
     say_pooled(p.set_codepage(&lengths, &counts, &text, page));
+}
+
+fn pages() {
+    say_new(b"1252", 1252);
+    say_new(b"2147483648", 2_147_483_648);
+    set_page(b"2147483647", pool_of(1, true), 2_147_483_647);
+    set_page(b"2147483648", pool_of(1, true), 2_147_483_648);
+    set_page(
+        b"2147483648 of two entries in rooms for one",
+        pool_of(2, true),
+        2_147_483_648,
+    );
 }
 
 fn main() {
@@ -696,6 +769,7 @@ fn main() {
     last_drop();
     short_wide();
     several_ways();
+    several_rooms();
     huge_lengths();
     unequal_rooms(false);
     full_text();

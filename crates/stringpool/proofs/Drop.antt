@@ -1,5 +1,5 @@
 -- What counting down an entry is, on the rooms.
-use mathlib.Core.Path.{_≡_, refl, sym, ap, ap₂, subst, _∙_}
+use mathlib.Core.Path.{_≡_, sym, ap, subst, _∙_}
 use Prim.Native.Nat.{ℕ, _+_, _-_, _≤_, _<_}
 use native.Mathlib.Omega.{arith}
 use mathlib.Core.List.{List, []}
@@ -22,9 +22,8 @@ use Rattle.common.proofs.Sums.{total-in}
 use Rattle.common.specs.Answers.{Answer, gives, refused, nowhere, outcome}
 use Rattle.stringpool.specs.Pool.{entry}
 use Rattle.stringpool.specs.Refs.{onReference}
-use Rattle.stringpool.specs.Drop.{lessened, dropAt, dropOutcome}
+use Rattle.stringpool.specs.Drop.{dropAt, dropOutcome}
 use Rattle.stringpool.proofs.House.{byPlace, on-reference, put-same, judge-refused, judge-passed}
-use Rattle.stringpool.specs.declared.judge.Judged.{Judged}
 use Rattle.stringpool.specs.declared.entry.Plan.{Plan}
 use Rattle.stringpool.specs.declared.entry.Plan.the-variants.{Refused, Count, Put}
 use Rattle.stringpool.specs.declared.pool.StringPool.{StringPool}

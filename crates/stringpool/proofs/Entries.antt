@@ -1,17 +1,18 @@
 -- Laws of the entries that are cut out of rooms and put back.
 use mathlib.Core.Path.{_≡_, refl, sym, ap, ap₂, _∙_}
 use Prim.Native.Nat.{ℕ, zero, suc, _+_, _-_, _≤_, _<_, max}
-use native.Mathlib.Nat.{zero-add, le-of-suc-le-suc, not-suc-le-zero}
+use native.Mathlib.Nat.{le-of-suc-le-suc, not-suc-le-zero}
 use native.Mathlib.Numerals.{add-one}
 use native.Mathlib.Omega.{arith}
 use mathlib.Core.List.{List, [], _∷_, _++_, map, append-assoc, append-nil}
-use lib.ListN.{length, take, drop, getD, set, replicate, length-append, length-drop, length-set, take-append-drop, length-take, length-map}
-use lib.Seq.{take-add, drop-drop, set-append-left, length-take-le, set-getD, getD-take, take-take, take-all, set-split}
+use lib.ListN.{length, take, drop, getD, set, replicate, length-append, length-drop, length-set, take-append-drop}
+use lib.Seq.{take-add, drop-drop, set-append-left, length-take-le, set-getD, getD-take, take-take, set-split}
 use Rattle.common.specs.Lists.{total}
 use Rattle.text_room.specs.Texts.{splice}
 use Rattle.stringpool.specs.inner.Entries.{Entry, Rooms, rooms, Fit, cut, entriesOf, texts, lengthsOf, countsOf, putBack}
 use Rattle.stringpool.specs.inner.Drop.{none}
 use Rattle.text_room.proofs.Splice.{front, length-front}
+use Rattle.common.proofs.Lists.{map-set}
 use Rattle.common.proofs.Sums.{total-in}
 pub use Rattle.pool_entries.proofs.Entries.{length-cut, getD-cut, both, length-entries, entry-at}
 
@@ -58,12 +59,6 @@ texts-set (l ∷ ls) (c ∷ cs) ts (suc k) e h hk =
     ∙ ap (λ (x : List ℕ). x ++ take (u - (s + o)) (drop (s + o) (drop l ts))) (sym (append-assoc (take l ts) (take s (drop l ts)) (e .text)))
     ∙ ap₂ (λ (x y : List ℕ). x ++ e .text ++ take (u - (s + o)) y) (sym (take-add l s ts)) (drop-drop (s + o) l ts)
     ∙ ap₂ (λ (i j : ℕ). take (l + s) ts ++ e .text ++ take i (drop j ts)) f g
-
--- a value changes under `map`
-pub map-set : {A : Type 0} {B : Type 0} (f : A → B) (l : List A) (i : ℕ) (a : A) → map f (set l i a) ≡ set (map f l) i (f a)
-map-set f [] i a = refl
-map-set f (x ∷ l) zero a = refl
-map-set {B = B} f (x ∷ l) (suc i) a = ap (λ (r : List B). f x ∷ r) (map-set f l i a)
 
 pub rooms-eq : {ls ls' cs cs' ts ts' : List ℕ} → ls ≡ ls' → cs ≡ cs' → ts ≡ ts' → rooms ls cs ts ≡ rooms ls' cs' ts'
 rooms-eq p q r = λ i. record { lengths = p i; counts = q i; text = r i }

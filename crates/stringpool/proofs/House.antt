@@ -1,34 +1,34 @@
 -- The private definitions equal the public ones: one law for each call.
-use mathlib.Core.Path.{_≡_, refl, sym, ap, ap₂, subst, _∙_}
-use Prim.Native.Nat.{ℕ, zero, suc, _+_, _-_, _≤_, _<_, max, min}
+use mathlib.Core.Path.{_≡_, refl, sym, ap, ap₂, _∙_}
+use Prim.Native.Nat.{ℕ, _+_, _-_, _≤_, _<_, max, min}
 use native.Mathlib.Omega.{arith}
 use mathlib.Core.Bool.{Bool, true, false, not, _&&_, _||_}
-use mathlib.Core.List.{List, [], _∷_, _++_, map}
-use lib.ListN.{length, take, drop, getD, set, replicate, length-append, length-replicate, length-map, length-drop, length-set, List·getD-eq-default}
+use mathlib.Core.List.{List, [], _∷_, _++_}
+use lib.ListN.{length, take, drop, getD, replicate, length-append, length-replicate, length-map, length-drop, List·getD-eq-default}
 use lib.Seq.{length-take-le}
 use lib.IntN.{ℤ, pos, negsuc, natAbs}
-use lib.Dec.{ltb, leb, eqb}
-use borrow.Author.Tests.{leb-true, leb-false, ltb-true, ltb-false, eqb-true, eqb-false, le-leb, lt-leb, lt-ltb, le-ltb}
+use lib.Dec.{ltb, leb}
+use borrow.Author.Tests.{leb-true, leb-false, ltb-true, ltb-false, le-leb, lt-leb}
 use Rattle.common.specs.Choice.{if_then_else_, _<?_, _≤?_, _=?_}
 use Rattle.common.specs.Answers.{Answer, gives, refused, nowhere, onGiven, outcome, refusalOf}
 use Rattle.common.specs.Refusals.{refusedBy}
 use Rattle.common.specs.Lists.{_over_, total}
-use Rattle.stringpool.specs.Pool.{Entry, entry, Rooms, rooms, cut, texts, all, free, entryRoom, sound, onSound}
+use Rattle.stringpool.specs.Pool.{Entry, Rooms, rooms, cut, texts, all, free, entryRoom, sound, onSound}
 use Rattle.stringpool.specs.Refs.{reference, onReference, referenceTo}
 use Rattle.stringpool.specs.Show.{showAnswer, refcountAnswer, orEmpty}
 use Rattle.stringpool.specs.inner.Refs.{placeOf}
-use Rattle.stringpool.specs.inner.Sound.{smallB, allSmall, sumsB, fitsB, soundB, judgeOf}
+use Rattle.stringpool.specs.inner.Sound.{allSmall, fitsB, soundB, judgeOf}
 use Rattle.stringpool.specs.inner.Entries.{Fit, entriesOf, putBack, lengthsOf, countsOf}
 use Rattle.stringpool.specs.inner.Drop.{none}
 use Rattle.stringpool.specs.inner.Show.{partAt, countAt}
 use Rattle.stringpool.specs.declared.pool.StringPool.{StringPool}
 use Rattle.common.specs.declared.refusal.Refusal.{Refusal}
-use Rattle.common.specs.declared.refusal.Refusal.the-variants.{OverSize, Unsound, ReferenceRange, DropPastEnd, CountZero}
+use Rattle.common.specs.declared.refusal.Refusal.the-variants.{OverSize, Unsound}
 use Rattle.stringpool.specs.declared.judge.Judged.{Judged}
 use Rattle.stringpool.specs.declared.refs.EntryPlace.{EntryPlace}
 use Rattle.stringpool.specs.declared.refs.Placed.{Placed}
 use Rattle.stringpool.specs.declared.refs.Placed.the-variants.{At, Outside}
-use Rattle.stringpool.proofs.Sound.{SoundFit, sound-fit, Judging, judging}
+use Rattle.stringpool.proofs.Sound.{judging}
 use Rattle.stringpool.proofs.Entries.{entry-at, length-entries}
 use Rattle.pool_entries.proofs.Sound as state
 use Rattle.stringpool.specs.Pool as house
@@ -104,9 +104,6 @@ pub made-in : (r r' : ℤ) → r' ≡ r → (k : EntryPlace) → placeOf r ≡ A
 made-in r r' q k e =
     ap gives (q ∙ number r k e) ∙ sym (reference-at r ∙ ap (λ (x : Placed). byPlace x (λ j. gives (referenceTo j))) e)
   where
-    out-in : Outside ≡ At k → ⊥
-    out-in h = let y : _≡_ {A = ℕ} 0 1 = cc in omega arith
-
     place : Placed → ℕ
     place Outside = 0
     place (At j) = j .0

@@ -1,6 +1,6 @@
 -- Laws of the entries of a pool stream, and of what a load answers and leaves.
 use mathlib.Core.Path.{_≡_, refl, sym, ap, ap₂, subst, _∙_}
-use Prim.Native.Nat.{ℕ, zero, suc, _+_, _-_, _*_, _≤_, _<_, min}
+use Prim.Native.Nat.{ℕ, zero, suc, _+_, _-_, _≤_, _<_}
 use native.Mathlib.Nat.{add-zero, add-assoc}
 use native.Mathlib.Omega.{arith}
 use mathlib.Core.Bool.{Bool, true, false, _&&_, _||_}
@@ -8,10 +8,11 @@ use mathlib.Core.List.{List, [], _∷_, _++_}
 use lib.ListN.{length, getD, drop, take}
 use lib.Seq.{drop-cons, drop-drop, paste, take-all, length-take-le}
 use lib.Dec.{ltb, eqb}
-use borrow.Author.Tests.{lt-ltb, le-ltb, ltb-true, ltb-false, eq-eqb, ne-eqb}
+use borrow.Author.Tests.{lt-ltb, le-ltb, ltb-false, eq-eqb, ne-eqb}
 use Rattle.common.specs.Choice.{if_then_else_}
 use Rattle.common.specs.Lists.{_over_, total}
 use Rattle.common.specs.Answers.{Answer, gives, refused, Place, nowhere, onGiven, outcome}
+use Rattle.common.proofs.Outcomes.{refused-gives}
 use Rattle.little_endian.specs.Numbers.{numberAt}
 use Rattle.stringpool.specs.Pool.{Rooms, rooms, entryRoom}
 use Rattle.stringpool.specs.Load.{Found, one, cut, ends, entryIn, withEntry, onFound, entriesIn, poolEntries, poolFrom, loadEntries, loadAnswer, loadOutcome}
@@ -133,9 +134,6 @@ module _ (s : List ℕ) (n t at : ℕ) (h : n < length s) (inv : sizesOf (poolEn
       ∙ ap (λ (r : List ℕ). more (n + 1) (t + l) (sizesOf (entriesIn (length s - (n + 1)) r))) (drop-drop k at s)
 
 -- ---- the entries, one by one
-
-pub refused-gives : {A : Type 0} {n : ℕ} {at : Place} {x : A} → refused n at ≡ gives x → ⊥
-refused-gives e = let y : _≡_ {A = ℕ} 0 1 = cc in omega arith
 
 nil-cons : {l : ℕ} {ls : List ℕ} → _≡_ {A = List ℕ} [] (l ∷ ls) → ⊥
 nil-cons e = let y : _≡_ {A = ℕ} 0 1 = cc in omega arith
@@ -304,12 +302,9 @@ loaded goal s d w n t l p ep ls cs ts el ec et =
     (et ∙ copied-fits (w .text) 0 (take t d) (omega (arith, length-take-le t d (l .stored), l .room))))
     ∙ l .is
 
--- a plan by another name, and an outcome
+-- a plan by another name
 pub load-is : (goal : Answer StringPool × Rooms) (s d : List ℕ) (w : Rooms) (x y : LoadPlan) → x ≡ y → LoadIs goal s d w x → LoadIs goal s d w y
 load-is goal s d w x y f h = subst (LoadIs goal s d w) f h
-
-pub load-by : (goal goal' : Answer StringPool × Rooms) (s d : List ℕ) (w : Rooms) (x : LoadPlan) → goal ≡ goal' → LoadIs goal s d w x → LoadIs goal' s d w x
-load-by goal goal' s d w x e h = subst (λ (g : Answer StringPool × Rooms). LoadIs g s d w x) e h
 
 -- the whole load
 module _ (s d : List ℕ) (w : Rooms) where

@@ -1,12 +1,12 @@
 -- The tests of a signed reference number, by its sign.
-use mathlib.Core.Path.{_≡_, refl, sym, ap, _∙_}
-use Prim.Native.Nat.{ℕ, _+_, _-_, _≤_, _<_}
+use mathlib.Core.Path.{_≡_, refl}
+use Prim.Native.Nat.{ℕ, _-_, _≤_}
 use native.Mathlib.Omega.{arith}
 use mathlib.Core.Bool.{Bool, true, false}
 use lib.IntN.{ℤ, pos, negsuc, natAbs}
-use lib.Dec.{T, ltb}
-use lib.Signed.{ltZ, nonNeg, mag}
-use borrow.Author.Tests.{ltb-true, ltb-false, lt-ltb, le-ltb}
+use lib.Dec.{T}
+use lib.Signed.{ltZ, nonNeg}
+use borrow.Author.Tests.{ltb-false}
 use Rattle.stringpool.specs.inner.Refs.{placeOf}
 use Rattle.stringpool.specs.declared.refs.Placed.the-variants as placed
 

@@ -3,19 +3,18 @@ use mathlib.Core.Path.{_≡_, refl, sym, ap, ap₂, _∙_}
 use Prim.Native.Nat.{ℕ, zero, suc, _+_, _-_, _≤_, _<_}
 use native.Mathlib.Numerals.{add-one}
 use native.Mathlib.Omega.{arith}
-use mathlib.Core.Bool.{Bool, true, false, _&&_}
+use mathlib.Core.Bool.{Bool, true, false}
 use mathlib.Core.List.{List, [], _∷_, _++_, append-assoc, append-nil, map}
 use lib.ListN.{length, take, drop, getD, length-append, length-drop}
 use lib.Seq.{take-suc, length-take-le}
-use lib.Dec.{ltb, leb, eqb}
-use borrow.Author.Tests.{ne-eqb, eq-eqb, lt-ltb, le-ltb}
+use borrow.Author.Tests.{lt-ltb, le-ltb}
 use Rattle.common.specs.Choice.{if_then_else_}
 use Rattle.common.specs.Lists.{_over_, overAt, joined, total}
 use Rattle.common.specs.Answers.{Answer, gives, refused, nowhere, outcome}
-use Rattle.common.proofs.Parts.{over-next, length-over-at}
+use Rattle.common.proofs.Parts.{over-next}
 use Rattle.little_endian.specs.Numbers.{bytesOf, writeOutcome}
-use Rattle.little_endian.proofs.Laws.{length-bytes, written}
-use Rattle.stringpool.specs.Pool.{Entry, Rooms, cut, entriesOf}
+use Rattle.little_endian.proofs.Laws.{written}
+use Rattle.stringpool.specs.Pool.{Entry, Rooms, cut}
 use Rattle.stringpool.specs.Write.{shortOf, wide, entryBytes, markOf, poolBytes, dataBytes, writeAnswer}
 use Rattle.stringpool.specs.inner.Entries.{Fit}
 use Rattle.stringpool.specs.inner.Write.{entriesBytes, poolStream}

@@ -17,7 +17,7 @@ use Rattle.common.specs.declared.refusal.Refusal.the-variants.{OverSize, ShortR
 use Rattle.common.proofs.Sums.{total-in}
 use Rattle.stringpool.specs.Pool.{entry, entryRoom}
 use Rattle.stringpool.specs.Take.{firstFreeOrEqual, increased, takenAt, counting, takeAt, takeAnswer, takeOutcome}
-use Rattle.stringpool.specs.inner.Entries.{Entry, Rooms, rooms, Fit, entriesOf, texts, putBack}
+use Rattle.stringpool.specs.inner.Entries.{Entry, Rooms, Fit, entriesOf, texts, putBack}
 use Rattle.stringpool.specs.inner.Drop.{none}
 use Rattle.stringpool.specs.inner.Sound.{judgeOf}
 use Rattle.stringpool.specs.inner.Look.{LookedIs}

@@ -1,6 +1,6 @@
 -- What a drop answers and what it leaves.
 use Prim.Native.Nat.{ℕ, _-_}
-use mathlib.Core.List.{List, []}
+use mathlib.Core.List.{[]}
 use lib.ListN.{length, getD, set}
 use lib.IntN.{ℤ}
 use Rattle.common.specs.Choice.{if_then_else_, _≤?_, _=?_}

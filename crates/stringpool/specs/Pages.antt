@@ -1,6 +1,6 @@
 -- An empty pool, and a pool with another code page.
 use Prim.Native.Nat.{ℕ}
-use mathlib.Core.Bool.{Bool, false}
+use mathlib.Core.Bool.{false}
 use Rattle.common.specs.Choice.{if_then_else_, _<?_}
 use Rattle.common.specs.Answers.{Answer, gives, refused, nowhere}
 use Rattle.common.specs.Refusals.{refusedBy}

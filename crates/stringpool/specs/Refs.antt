@@ -1,6 +1,6 @@
 -- Reference numbers. "A 1-based reference number and a 0-based entry place are kept apart."
 use Prim.Native.Nat.{ℕ, _+_, _-_}
-use mathlib.Core.Bool.{Bool, _||_}
+use mathlib.Core.Bool.{_||_}
 use lib.IntN.{ℤ, pos, natAbs}
 use Rattle.common.specs.Sizes.{maxEntries}
 use Rattle.common.specs.Choice.{if_then_else_, _<ℤ?_}

@@ -5,7 +5,7 @@ use lib.ListN.{getD}
 use lib.IntN.{ℤ}
 use Rattle.common.specs.Answers.{Answer, gives, refused}
 use Rattle.common.specs.Refusals.{refusedBy}
-use Rattle.stringpool.specs.Pool.{Entry, entry, Rooms, entriesOf, onSound}
+use Rattle.stringpool.specs.Pool.{entry, Rooms, entriesOf, onSound}
 use Rattle.stringpool.specs.Refs.{onReference}
 use Rattle.stringpool.specs.declared.pool.StringPool.{StringPool}
 use Rattle.stringpool.specs.declared.shows.Showable.{Showable}

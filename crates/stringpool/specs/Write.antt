@@ -1,6 +1,6 @@
 -- The pool stream and the data stream of a pool, and what writing one answers and leaves.
 use Prim.Native.Nat.{ℕ, _+_}
-use mathlib.Core.Bool.{Bool, true, false, _&&_}
+use mathlib.Core.Bool.{Bool, _&&_}
 use mathlib.Core.List.{List, [], _++_, map}
 use lib.ListN.{length}
 use Rattle.common.specs.Choice.{if_then_else_, _<?_, _≤?_, _=?_}

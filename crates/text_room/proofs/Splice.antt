@@ -1,20 +1,25 @@
 -- `splice`, by the stores that make it: the later bytes move, the new text is written, and what is given up becomes 0.
 use mathlib.Core.Path.{_≡_, refl, sym, ap, ap₂, _∙_}
-use Prim.Native.Nat.{ℕ, zero, suc, _+_, _-_, _≤_, _<_, max}
+use Prim.Native.Nat.{ℕ, _+_, _-_, _≤_, _<_, max}
 use native.Mathlib.Omega.{arith}
 use mathlib.Core.Bool.{Bool, true, false, _&&_}
 use lib.Dec.{leb}
 use borrow.Author.Tests.{le-leb, lt-leb, leb-true, leb-false}
 use Rattle.common.specs.Choice.{if_then_else_}
 use Rattle.common.specs.Lists.{overAt}
-use mathlib.Core.List.{List, [], _∷_, _++_, append-assoc, append-nil}
+use Rattle.common.proofs.Parts.{paste-over}
+use mathlib.Core.List.{List, _++_, append-assoc, append-nil}
 use lib.ListN.{length, take, drop, replicate, length-append, length-drop, length-replicate}
-use lib.Seq.{paste, take-at, drop-at, take-append-le, drop-append-le, drop-append-add, drop-drop, take-take, take-length, take-all, length-take-le, length-paste}
+use lib.Seq.{paste, length-paste, take-at, drop-at, take-append-le, drop-append-add, drop-drop, take-take, take-length, take-all, length-take-le}
 use Rattle.text_room.specs.Texts.{splice, fits, replaced, copiedIn}
 
 -- the used part after the replacement
 abbrev pub front : List ℕ → ℕ → ℕ → ℕ → List ℕ → List ℕ
 front ts start old used new = take start ts ++ new ++ take (used - (start + old)) (drop (start + old) ts)
+
+-- a move keeps the length of the room
+pub moved : (ts t : List ℕ) (to from size : ℕ) → t ≡ paste ts to (drop from ts) size → from + size ≤ length ts → to + size ≤ length ts → length t ≡ length ts
+moved ts t to from size e h h' = ap length e ∙ length-paste ts to (drop from ts) size h' (simp length-drop (omega arith))
 
 pub length-front : (ts : List ℕ) (start old used : ℕ) (new : List ℕ) → start + old ≤ used → used ≤ length ts
     → length (front ts start old used new) ≡ used - old + length new
@@ -90,6 +95,10 @@ replaced-fits ts start old used new h hu room =
 
 pub copied-fits : (room : List ℕ) (at : ℕ) (new : List ℕ) → at + length new ≤ length room → copiedIn room at new ≡ overAt at new room
 copied-fits room at new h = ap (λ (b : Bool). if b then overAt at new room else room) (le-leb (at + length new) (length room) h)
+
+pub copied-paste : (room : List ℕ) (at : ℕ) (new : List ℕ) → at + length new ≤ length room → copiedIn room at new ≡ paste room at new (length new)
+copied-paste room at new h =
+    copied-fits room at new h ∙ ap (λ (x : List ℕ). overAt at x room) (sym (take-length new)) ∙ sym (paste-over at (length new) new room (omega arith))
 
 pub copied-not : (room : List ℕ) (at : ℕ) (new : List ℕ) → length room < at + length new → room ≡ copiedIn room at new
 copied-not room at new h = sym (ap (λ (b : Bool). if b then overAt at new room else room) (lt-leb (at + length new) (length room) h))

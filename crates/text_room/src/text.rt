@@ -41,18 +41,6 @@ fn zero(text: &mut [u8], at: usize, size: usize)
     }
 }
 
-// Writes src at `at`.
-fn copy(text: &mut [u8], at: usize, src: &[u8])
-    requires { ⌜ at + length (now src) ≤ length (now text) ⌝ }
-    ensures { λ _. ⌜ now (text .exit) ≡ paste (now (text .entry)) at (now (src .entry)) (length (now (src .entry))) ⌝ }
-{
-    let mut j = 0;
-    while j < src.len() {
-        text[at + j] = src[j];
-        j += 1;
-    }
-}
-
 // Moves size bytes from `from` to `to`.
 fn move_text(text: &mut [u8], to: usize, from: usize, size: usize)
     requires { ⌜ (from + size ≤ length (now text)) × (to + size ≤ length (now text)) ⌝ }
@@ -75,7 +63,7 @@ fn put(text: &mut [u8], start: usize, old: usize, used: usize, new: &[u8])
     let rest = used - from;
     let to = start + new.len();
     move_text(text, to, from, rest);
-    copy(text, start, new);
+    copy_in(text, start, new);
     let end = to + rest;
     if end < used {
         zero(text, end, used - end);
@@ -118,5 +106,9 @@ pub fn copy_in(room: &mut [u8], at: usize, src: &[u8])
     if src.len() > room.len() - at {
         return;
     }
-    copy(room, at, src);
+    let mut j = 0;
+    while j < src.len() {
+        room[at + j] = src[j];
+        j += 1;
+    }
 }

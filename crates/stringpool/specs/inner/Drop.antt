@@ -1,9 +1,7 @@
 -- The step of a drop.
 use Prim.Native.Nat.{ℕ}
-use mathlib.Core.Bool.{Bool, true, false}
-use mathlib.Core.Path.{_≡_}
 use mathlib.Core.List.{List, []}
-use lib.ListN.{length, getD, set}
+use lib.ListN.{getD, set}
 use Rattle.common.specs.Answers.{Answer, gives}
 use Rattle.common.specs.Refusals.{refusedBy}
 use Rattle.stringpool.specs.declared.pool.StringPool.{StringPool}

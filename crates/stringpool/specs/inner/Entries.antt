@@ -1,6 +1,6 @@
 -- A pool's entries, cut out of the lent rooms, and the rooms with a list of entries put back.
 use Prim.Native.Nat.{ℕ, _+_, _-_, _≤_, max}
-use mathlib.Core.List.{List, [], _∷_, _++_, map}
+use mathlib.Core.List.{List, _++_, map}
 use lib.ListN.{length, take, drop, replicate}
 use Rattle.common.specs.Lists.{total}
 pub use Rattle.pool_entries.specs.Entries.{Entry, Rooms, rooms, cut, entriesOf}

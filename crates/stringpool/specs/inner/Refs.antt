@@ -1,5 +1,5 @@
 -- Entry places as the code makes them.
-use Prim.Native.Nat.{ℕ, _-_}
+use Prim.Native.Nat.{_-_}
 use lib.IntN.{ℤ, pos, negsuc}
 use lib.Dec.{ltb}
 use Rattle.common.specs.Choice.{if_then_else_}

@@ -1,4 +1,4 @@
-use mathlib.Core.Path.{_≡_, sym, ap}
+use mathlib.Core.Path.{sym, ap}
 use Rattle.stringpool.specs.inner.Drop.{droppedBy}
 use borrow.Author.Needs.{needs}
 use Rattle.stringpool.proofs.drops.drop_answer.Statement.{statement}

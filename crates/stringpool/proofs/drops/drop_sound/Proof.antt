@@ -1,8 +1,5 @@
-use mathlib.Core.Path.{_≡_, sym, _∙_}
+use mathlib.Core.Path.{sym, _∙_}
 use native.Mathlib.Omega.{arith}
-use Prim.Native.Nat.{ℕ, _≤_}
-use mathlib.Core.List.{List}
-use lib.ListN.{length, take, getD}
 use Rattle.stringpool.specs.Pool.{rooms}
 use Rattle.common.proofs.Sums.{total-le}
 use Rattle.stringpool.proofs.Drop.{drop-outside, drop-past, drop-free, drop-more, drop-last}

@@ -1,6 +1,5 @@
-use lib.ListN.{length}
 use Rattle.text_room.proofs.Splice.{replaced-fits}
-use mathlib.Core.Path.{_≡_, refl, sym, ap, _∙_}
+use mathlib.Core.Path.{refl, sym, ap, _∙_}
 use native.Mathlib.Omega.{arith}
 use Rattle.stringpool.specs.Pool.{rooms}
 use Rattle.stringpool.specs.inner.Plan.{carried}

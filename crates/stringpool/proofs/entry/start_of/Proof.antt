@@ -1,8 +1,8 @@
 use mathlib.Core.Path.{_≡_, refl, sym, ap, _∙_}
-use Prim.Native.Nat.{ℕ, zero, suc, _+_, _*_, _-_, _≤_, _<_}
+use Prim.Native.Nat.{ℕ, _+_, _-_, _≤_}
 use native.Mathlib.Omega.{arith}
 use native.Mathlib.Numerals.{add-one}
-use lib.ListN.{length, take, getD}
+use lib.ListN.{take, getD}
 use Rattle.common.specs.Lists.{total}
 use Rattle.common.proofs.Sums.{total-suc, total-in}
 use Rattle.stringpool.proofs.entry.start_of.Statement.{statement}

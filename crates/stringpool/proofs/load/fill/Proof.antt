@@ -1,18 +1,18 @@
 use borrow.Author.Needs.{needs}
-use mathlib.Core.Path.{_≡_, refl, sym, ap, ap₂, _∙_}
+use mathlib.Core.Path.{_≡_, sym, ap, _∙_}
 use Prim.Native.Nat.{ℕ, suc, _+_, _-_, _*_, _≤_, _<_}
 use native.Mathlib.Omega.{arith}
-use mathlib.Core.List.{List, _++_}
-use lib.ListN.{length, take, drop, getD, set, length-drop, length-append}
+use mathlib.Core.List.{List}
+use lib.ListN.{length, drop, getD, set, length-drop}
 use native.Mathlib.Nat.{sub-zero, zero-add}
 use native.Mathlib.Numerals.{add-one}
 use mathlib.Core.Logic.{⊎-elim}
 use Rattle.common.specs.Answers.{gives}
 use Rattle.common.proofs.Parts.{tail-part}
 use Rattle.common.proofs.Run.{Run, run-start, run-turn, run-end}
-use Rattle.stringpool.specs.Load.{entryIn, entriesIn, poolEntries}
+use Rattle.stringpool.specs.Load.{entryIn, entriesIn}
 use Rattle.stringpool.specs.inner.Load.{foundAs, lengthsIn, countsIn}
-use Rattle.stringpool.proofs.Loads.{found-size, OneMore, one-more, is-one}
+use Rattle.stringpool.proofs.Loads.{found-size, one-more, is-one}
 use Rattle.stringpool.proofs.load.fill.Statement.{statement}
 use Rattle.stringpool.proofs.load.fill.Tie as tie
 

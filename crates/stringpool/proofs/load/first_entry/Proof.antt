@@ -1,8 +1,5 @@
-use mathlib.Core.Path.{_≡_, refl, sym, ap, ap₂, _∙_}
-use Prim.Native.Nat.{ℕ, _+_, _-_, _*_, _≤_, _<_}
+use Prim.Native.Nat.{_-_}
 use native.Mathlib.Omega.{arith}
-use mathlib.Core.List.{List}
-use lib.ListN.{length, take, drop, getD}
 use denote.Ref.{now}
 use Rattle.little_endian.specs.Promises.{AreBytes}
 use Rattle.little_endian.proofs.Laws.{number-lt}

@@ -1,7 +1,10 @@
-use mathlib.Core.Path.{_≡_, refl, sym, ap, _∙_}
+use Rattle.common.specs.Answers.{Answer}
+use Rattle.stringpool.specs.Pool.{Rooms}
+use Rattle.stringpool.specs.declared.pool.StringPool.{StringPool}
+use mathlib.Core.Path.{sym, ap, subst, _∙_}
 use native.Mathlib.Omega.{arith}
-use Rattle.stringpool.specs.inner.Load.{sizedAs}
-use Rattle.stringpool.proofs.Loads.{load-big-pool, load-big-data, load-big-text, load-short, load-cut, load-judged, load-by}
+use Rattle.stringpool.specs.inner.Load.{sizedAs, LoadIs}
+use Rattle.stringpool.proofs.Loads.{load-big-pool, load-big-data, load-big-text, load-short, load-cut, load-judged}
 use borrow.Author.Needs.{needs}
 use Rattle.stringpool.proofs.load.plan_load.Statement.{statement}
 use Rattle.stringpool.proofs.load.plan_load.Tie as tie
@@ -36,7 +39,7 @@ returns-5 c = λ d w l. load-cut (c .before .before .before .before .before .bef
 returns-6 : tie.Need-returns-6
 returns-6 c =
     λ d w l.
-    load-by _ _ (c .before .before .before .before .before .before .before .before .before .before .args .pool .now) d w (c .plan-sized .result) (load-judged (c .before .before .before .before .before .before .before .before .before .before .args .pool .now) d w (c .before .before .before .before .before .before .before .before .if1 .left) (omega (arith, c .before .before .before .before .before .before .before .if2 .left, l .stream)) (omega (arith, c .before .before .before .before .before .before .if3 .left, l .room)) (c .before .before .before .before .before .if4 .left))
+    subst (λ (g : Answer StringPool × Rooms). LoadIs g (c .before .before .before .before .before .before .before .before .before .before .args .pool .now) d w (c .plan-sized .result)) (load-judged (c .before .before .before .before .before .before .before .before .before .before .args .pool .now) d w (c .before .before .before .before .before .before .before .before .if1 .left) (omega (arith, c .before .before .before .before .before .before .before .if2 .left, l .stream)) (omega (arith, c .before .before .before .before .before .before .if3 .left, l .room)) (c .before .before .before .before .before .if4 .left))
     (c .plan-sized .ensures (c .before .before .before .before .before .before .before .before .before .before .args .pool .now) d w (record { is = sym (c .before .before .before .before .sizes .ensures) ∙ ap sizedAs (c .before .before .sized .given .1); marked = c .before .before .before .before .before .if4 .left; small = c .before .before .before .before .before .before .before .before .if1 .left }) l)
 
 pub plan-load-spec : {M : Type 1} → statement M

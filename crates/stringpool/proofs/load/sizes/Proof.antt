@@ -1,12 +1,11 @@
 use borrow.Author.Needs.{needs}
-use mathlib.Core.Path.{_≡_, refl, sym, ap, ap₂, _∙_}
-use Prim.Native.Nat.{ℕ, _+_, _-_, _*_, _≤_, _<_}
+use mathlib.Core.Path.{_≡_, sym, ap, _∙_}
+use Prim.Native.Nat.{ℕ, _+_, _-_, _*_, _≤_}
 use native.Mathlib.Omega.{arith}
-use mathlib.Core.List.{List}
-use lib.ListN.{length, take, drop, getD, length-drop}
+use lib.ListN.{length, drop, length-drop}
 use native.Mathlib.Nat.{sub-zero}
 use Rattle.common.proofs.Parts.{tail-part}
-use Rattle.stringpool.specs.Load.{Found, entryIn, entriesIn, poolEntries}
+use Rattle.stringpool.specs.Load.{entryIn, entriesIn, poolEntries}
 use Rattle.stringpool.specs.inner.Load.{foundAs, sizesOf}
 use Rattle.stringpool.proofs.Loads.{found-size, more, more-none, size-end, size-cut, size-one}
 use Rattle.stringpool.proofs.load.sizes.Statement.{statement}

@@ -1,9 +1,6 @@
-use mathlib.Core.Path.{_≡_, refl, sym, ap, ap₂, _∙_}
-use Prim.Native.Nat.{ℕ, suc, _+_, _-_, _*_, _≤_, _<_}
-use native.Mathlib.Omega.{arith}
-use mathlib.Core.List.{List, [], _++_}
-use lib.ListN.{length, take, drop, getD}
-use Rattle.stringpool.specs.Pool.{rooms}
+use mathlib.Core.Path.{sym, ap, _∙_}
+use Prim.Native.Nat.{_-_}
+use mathlib.Core.List.{[]}
 use Rattle.common.specs.Answers.{gives}
 use Rattle.stringpool.specs.inner.Show.{countAt}
 use Rattle.stringpool.proofs.House.{at-outside, at-place, count-past, count-in}

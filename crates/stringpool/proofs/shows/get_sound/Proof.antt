@@ -1,10 +1,8 @@
-use mathlib.Core.Path.{_≡_, refl, sym, ap, ap₂, _∙_}
-use Prim.Native.Nat.{ℕ, suc, _+_, _-_, _*_, _≤_, _<_}
+use mathlib.Core.Path.{_≡_, sym, ap, ap₂, _∙_}
+use Prim.Native.Nat.{ℕ, _+_, _-_}
 use native.Mathlib.Omega.{arith}
-use mathlib.Core.List.{List, [], _++_}
-use lib.ListN.{length, take, drop, getD}
-use Rattle.stringpool.specs.Pool.{rooms}
-use Rattle.common.specs.Lists.{total}
+use mathlib.Core.List.{[]}
+use lib.ListN.{take, drop, getD}
 use Rattle.common.specs.Answers.{gives}
 use Rattle.common.proofs.Sums.{total-le, total-in}
 use Rattle.stringpool.specs.Show.{orEmpty}

@@ -1,10 +1,5 @@
-use mathlib.Core.Path.{_≡_, refl, sym, ap, ap₂, _∙_}
-use Prim.Native.Nat.{ℕ, suc, _+_, _-_, _*_, _≤_, _<_}
-use native.Mathlib.Omega.{arith}
-use mathlib.Core.List.{List, [], _++_}
-use lib.ListN.{length, take, drop, getD}
-use Rattle.stringpool.specs.Pool.{rooms}
-use Rattle.common.specs.Answers.{refusalOf}
+use mathlib.Core.Path.{sym, _∙_}
+use Prim.Native.Nat.{_-_}
 use Rattle.stringpool.proofs.House.{refused-outside, refused-none}
 use borrow.Author.Needs.{needs}
 use Rattle.stringpool.proofs.shows.in_range.Statement.{statement}

@@ -1,6 +1,5 @@
-use mathlib.Core.Path.{_≡_, refl, sym, ap, _∙_}
+use mathlib.Core.Path.{refl, sym, ap, _∙_}
 use native.Mathlib.Omega.{arith}
-use lib.ListN.{length, take, getD}
 use Rattle.common.proofs.Sums.{total-in}
 use Rattle.stringpool.specs.Pool.{rooms}
 use Rattle.stringpool.specs.inner.Entries.{entriesOf}

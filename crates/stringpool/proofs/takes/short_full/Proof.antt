@@ -1,12 +1,4 @@
-use mathlib.Core.Path.{_≡_, refl, sym, ap, _∙_}
-use Prim.Native.Nat.{ℕ, _+_, _-_, _≤_, _<_}
-use native.Mathlib.Omega.{arith}
-use borrow.Author.Tests.{lt-ltb, le-ltb}
-use mathlib.Core.List.{List}
-use lib.ListN.{length, take, getD}
-use Rattle.common.specs.Lists.{total}
-use Rattle.stringpool.specs.inner.Entries.{rooms}
-use Rattle.common.proofs.Sums.{total-in}
+use Prim.Native.Nat.{_-_}
 use borrow.Author.Needs.{needs}
 use Rattle.stringpool.proofs.takes.short_full.Statement.{statement}
 use Rattle.stringpool.proofs.takes.short_full.Tie as tie

@@ -1,6 +1,5 @@
-use mathlib.Core.Path.{_≡_, sym, ap, ap₂, subst, _∙_}
+use mathlib.Core.Path.{sym, ap, ap₂, subst, _∙_}
 use Rattle.stringpool.specs.inner.Take.{takenBy, Numbered}
-use Rattle.stringpool.specs.declared.entry.Plan.{Plan}
 use Rattle.stringpool.specs.declared.pool.StringPool.{StringPool}
 use Rattle.stringpool.specs.declared.refs.StringRef.{StringRef}
 use Rattle.common.specs.Answers.{gives}

@@ -1,10 +1,8 @@
 use borrow.Author.Needs.{needs}
-use mathlib.Core.Path.{_≡_, refl, sym, ap, ap₂, _∙_}
-use Prim.Native.Nat.{ℕ, suc, _+_, _-_, _*_, _≤_, _<_}
+use mathlib.Core.Path.{_≡_, refl, ap, _∙_}
+use Prim.Native.Nat.{ℕ, _-_, _*_, _≤_}
 use native.Mathlib.Omega.{arith}
-use mathlib.Core.List.{List, _++_}
-use lib.ListN.{length, take, drop, getD, set, length-drop, length-append}
-use Rattle.stringpool.specs.Write.{shortOf, wide, entryBytes}
+use lib.ListN.{length, take}
 use Rattle.stringpool.specs.inner.Write.{entriesBytes}
 use Rattle.stringpool.proofs.Streams.{length-suc}
 use Rattle.stringpool.proofs.writes.entries_size.Statement.{statement}

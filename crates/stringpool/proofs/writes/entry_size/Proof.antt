@@ -1,8 +1,6 @@
-use mathlib.Core.Path.{_≡_, refl, sym, ap, ap₂, _∙_}
-use Prim.Native.Nat.{ℕ, suc, _+_, _-_, _*_, _≤_, _<_}
+use mathlib.Core.Path.{sym, _∙_}
+use Prim.Native.Nat.{_-_}
 use native.Mathlib.Omega.{arith}
-use mathlib.Core.List.{List, _++_}
-use lib.ListN.{length, take, drop, getD, set, length-drop, length-append}
 use Rattle.stringpool.proofs.Streams.{length-narrow, length-wide}
 use borrow.Author.Needs.{needs}
 use Rattle.stringpool.proofs.writes.entry_size.Statement.{statement}

@@ -1,13 +1,9 @@
-use mathlib.Core.Path.{_≡_, refl, sym, ap, ap₂, _∙_}
-use Prim.Native.Nat.{ℕ, suc, _+_, _-_, _*_, _≤_, _<_}
-use native.Mathlib.Omega.{arith}
-use mathlib.Core.List.{List, _++_}
-use lib.ListN.{length, take, drop, getD, set, length-drop, length-append}
+use mathlib.Core.Path.{sym, ap, _∙_}
+use Prim.Native.Nat.{_-_}
 use borrow.Author.Tests.{ne-eqb, eq-eqb}
 use mathlib.Core.Bool.{Bool, _&&_}
 use lib.Dec.{ltb}
-use Rattle.stringpool.specs.Write.{shortOf, wide, entryBytes}
-use Rattle.stringpool.specs.inner.Write.{entriesBytes}
+use Rattle.stringpool.specs.Write.{shortOf}
 use borrow.Author.Needs.{needs}
 use Rattle.stringpool.proofs.writes.wide.Statement.{statement}
 use Rattle.stringpool.proofs.writes.wide.Tie as tie

@@ -1,10 +1,10 @@
 use Rattle.common.proofs.Parts.{over-none, length-over-at}
-use mathlib.Core.Path.{_≡_, refl, sym, ap, ap₂, _∙_}
-use Prim.Native.Nat.{ℕ, suc, _+_, _-_, _*_, _≤_, _<_}
+use mathlib.Core.Path.{_≡_, refl, sym, ap, _∙_}
+use Prim.Native.Nat.{ℕ, _+_, _-_, _≤_}
 use native.Mathlib.Omega.{arith}
-use mathlib.Core.List.{List, _++_}
-use lib.ListN.{length, take, drop, getD, set, length-drop, length-append}
-use Rattle.stringpool.specs.Write.{shortOf, wide, entryBytes}
+use mathlib.Core.List.{List}
+use lib.ListN.{length, take, getD}
+use Rattle.stringpool.specs.Write.{entryBytes}
 use Rattle.stringpool.specs.inner.Write.{entriesBytes}
 use Rattle.common.specs.Lists.{overAt}
 use Rattle.stringpool.proofs.Streams.{length-suc, turn-room, turn-out}

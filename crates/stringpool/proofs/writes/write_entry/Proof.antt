@@ -1,13 +1,12 @@
-use mathlib.Core.Path.{_≡_, refl, sym, ap, ap₂, _∙_}
-use Prim.Native.Nat.{ℕ, suc, _+_, _-_, _*_, _≤_, _<_}
+use mathlib.Core.Path.{_≡_, sym, ap, _∙_}
+use Prim.Native.Nat.{ℕ, _+_, _-_, _≤_}
 use native.Mathlib.Omega.{arith}
-use mathlib.Core.List.{List, _++_}
-use lib.ListN.{length, take, drop, getD, set, length-drop, length-append}
+use mathlib.Core.List.{List}
+use lib.ListN.{length}
 use Rattle.common.specs.Lists.{overAt}
 use Rattle.common.proofs.Parts.{length-over-at}
 use Rattle.little_endian.specs.Numbers.{bytesOf}
-use Rattle.stringpool.specs.Write.{shortOf, wide, entryBytes}
-use Rattle.stringpool.specs.inner.Write.{entriesBytes}
+use Rattle.stringpool.specs.Write.{shortOf, wide}
 use Rattle.stringpool.proofs.Streams.{length-entry, length-narrow, length-wide, wrote, wrote-narrow, wrote-wide}
 use borrow.Author.Needs.{needs}
 use Rattle.stringpool.proofs.writes.write_entry.Statement.{statement}

@@ -1,9 +1,9 @@
 use Rattle.common.specs.Lists.{overAt}
-use mathlib.Core.Path.{_≡_, refl, sym, ap, ap₂, _∙_}
-use Prim.Native.Nat.{ℕ, suc, _+_, _-_, _*_, _≤_, _<_}
+use mathlib.Core.Path.{_≡_, refl, sym, ap, _∙_}
+use Prim.Native.Nat.{ℕ, _+_, _-_, _≤_}
 use native.Mathlib.Omega.{arith}
-use mathlib.Core.List.{List, _++_}
-use lib.ListN.{length, take, drop, getD, set, length-drop, length-append}
+use mathlib.Core.List.{List}
+use lib.ListN.{length, take}
 use Rattle.stringpool.specs.Write.{markOf}
 use Rattle.stringpool.specs.inner.Write.{entriesBytes, poolStream}
 use Rattle.little_endian.specs.Numbers.{bytesOf}

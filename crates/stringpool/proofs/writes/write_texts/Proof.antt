@@ -1,10 +1,8 @@
 use Rattle.text_room.proofs.Splice.{copied-fits}
-use mathlib.Core.Path.{_≡_, refl, sym, ap, ap₂, _∙_}
-use Prim.Native.Nat.{ℕ, suc, _+_, _-_, _*_, _≤_, _<_}
+use mathlib.Core.Path.{_≡_, sym, _∙_}
+use Prim.Native.Nat.{ℕ, _-_}
 use native.Mathlib.Omega.{arith}
-use mathlib.Core.List.{List, [], _++_}
-use lib.ListN.{length, take, drop, getD}
-use Rattle.stringpool.specs.Pool.{rooms}
+use lib.ListN.{length, take}
 use lib.Seq.{length-take-le}
 use Rattle.stringpool.proofs.Streams.{write-short, write-done}
 use borrow.Author.Needs.{needs}

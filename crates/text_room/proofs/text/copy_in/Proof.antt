@@ -1,42 +1,71 @@
-use mathlib.Core.Path.{_≡_, sym, ap, _∙_}
+use mathlib.Core.Path.{refl, sym, _∙_}
+use Prim.Native.Nat.{_-_}
 use native.Mathlib.Omega.{arith}
-use mathlib.Core.Bool.{Bool}
-use Prim.Native.Nat.{_+_}
 use lib.ListN.{length}
-use lib.Seq.{take-length}
-use borrow.Author.Tests.{lt-leb}
-use mathlib.Core.List.{List}
-use Prim.Native.Nat.{ℕ}
-use Rattle.common.specs.Choice.{if_then_else_}
-use Rattle.common.specs.Lists.{overAt}
-use Rattle.common.proofs.Parts.{paste-over}
-use Rattle.text_room.proofs.Splice.{copied-not, copied-fits}
-use borrow.Author.Needs.{needs}
+use Rattle.common.proofs.Run.{Run, run-start, run-turn, run-end}
+use Rattle.text_room.proofs.Splice.{copied-not, copied-paste}
 use Rattle.text_room.proofs.text.copy_in.Statement.{statement}
 use Rattle.text_room.proofs.text.copy_in.Tie as tie
 
-returns : tie.Need-returns
-returns c = let s = c .before .before .before in copied-not (s .args .room .now) (s .args .at) (s .args .src .now) (omega (arith, c .if1 .taken))
+abbrev Inv-loop : tie.InvT-loop
+Inv-loop room₀ at src j₀ room j = Run room₀ at src (length src) room j
 
-sub-if2 : tie.Need-sub-if2
-sub-if2 c = search needs
+abbrev μ-loop : tie.MeasureT-loop
+μ-loop room₀ at src j₀ room j = length src - j
 
-returns-2 : tie.Need-returns-2
-returns-2 c = let s = c .before .before .before .before in copied-not (s .args .room .now) (s .args .at) (s .args .src .now) (omega (arith, c .if2 .taken))
+returns : tie.Need-returns Inv-loop μ-loop
+returns c = let s = c .before in copied-not (s .args .room .now) (s .args .at) (s .args .src .now) (omega (arith, c .if1 .taken))
 
-copy-requires : tie.Need-copy-requires
-copy-requires c κs = search needs
+sub-if2 : tie.Need-sub-if2 Inv-loop μ-loop
+sub-if2 c = omega arith
 
-same-length : tie.Need-same-length
-same-length c = search needs
+returns-2 : tie.Need-returns-2 Inv-loop μ-loop
+returns-2 c = let s = c .before .before in copied-not (s .args .room .now) (s .args .at) (s .args .src .now) (omega (arith, c .if2 .taken))
 
-returns-3 : tie.Need-returns-3
+loop-holds : tie.Need-loop-holds Inv-loop μ-loop
+loop-holds c = run-start _ _ _ _
+
+shared-slice-read-room : tie.Need-shared-slice-read-room Inv-loop μ-loop
+shared-slice-read-room c = omega arith
+
+add-room : tie.Need-add-room Inv-loop μ-loop
+add-room c = omega arith
+
+slice-write-room : tie.Need-slice-write-room Inv-loop μ-loop
+slice-write-room c = omega (arith, c .before .before .loop .inv .long)
+
+add-j : tie.Need-add-j Inv-loop μ-loop
+add-j c = omega arith
+
+loop-less : tie.Need-loop-less Inv-loop μ-loop
+loop-less c = omega arith
+
+loop-again : tie.Need-loop-again Inv-loop μ-loop
+loop-again c = let l = c .before .before in run-turn _ 0 (omega (arith, c .before .before .before .if2 .left, c .before .before .before .before .if1 .left)) (omega arith) (l .loop .inv) (c .before .loop-test .taken) refl
+
+same-length : tie.Need-same-length Inv-loop μ-loop
+same-length c = c .before .loop .inv .long
+
+returns-3 : tie.Need-returns-3 Inv-loop μ-loop
 returns-3 c =
-    let s = c .before .before .before .before .before .before .before .before in
-    let r : List ℕ = s .args .room .now in
-    let t : List ℕ = s .args .src .now in
-    c .before .before .copy .ensures ∙ paste-over (s .args .at) (length t) t r (omega arith) ∙ ap (λ (x : List ℕ). overAt (s .args .at) x r) (take-length t)
-    ∙ sym (copied-fits r (s .args .at) t (omega (arith, c .before .before .before .before .if2 .left, c .before .before .before .before .before .if1 .left)))
+    let s = c .before .before .before .before in
+    run-end (c .before .loop .inv) (c .loop-test .left) ∙ sym (copied-paste (s .args .room .now) (s .args .at) (s .args .src .now) (omega (arith, c .before .before .if2 .left, c .before .before .before .if1 .left)))
 
 pub copy-in-spec : {M : Type 1} → statement M
-copy-in-spec = tie.close (tie.spec returns sub-if2 returns-2 copy-requires same-length returns-3)
+copy-in-spec =
+    tie.close
+    (tie.spec
+    Inv-loop
+    μ-loop
+    returns
+    sub-if2
+    returns-2
+    loop-holds
+    shared-slice-read-room
+    add-room
+    slice-write-room
+    add-j
+    loop-less
+    loop-again
+    same-length
+    returns-3)

@@ -1,11 +1,7 @@
-use mathlib.Core.Path.{_≡_, refl, sym, ap, _∙_}
-use Prim.Native.Nat.{ℕ, zero, suc, _+_, _*_, _-_, _≤_, _<_}
-use native.Mathlib.Nat.{le-refl, le-of-eq}
+use Prim.Native.Nat.{_-_}
 use native.Mathlib.Omega.{arith}
-use mathlib.Core.List.{List}
-use lib.ListN.{length, take, drop, getD, set, replicate, length-set, length-drop, length-replicate, getD-replicate}
-use lib.Seq.{paste, paste-zero, length-paste, getD-drop}
-use Rattle.common.proofs.Run.{Run, run-start, run-turn, run-end, move-reads, RunDown, down-start, down-turn, down-end}
+use lib.ListN.{drop, length-drop}
+use Rattle.common.proofs.Run.{Run, run-start, run-turn, run-end, move-reads}
 use Rattle.text_room.proofs.text.move_down.Statement.{statement}
 use Rattle.text_room.proofs.text.move_down.Tie as tie
 

@@ -1,11 +1,6 @@
-use mathlib.Core.Path.{_≡_, refl, sym, ap, _∙_}
-use Prim.Native.Nat.{ℕ, zero, suc, _+_, _*_, _-_, _≤_, _<_}
-use native.Mathlib.Nat.{le-refl, le-of-eq}
+use Prim.Native.Nat.{_-_}
 use native.Mathlib.Omega.{arith}
-use mathlib.Core.List.{List}
-use lib.ListN.{length, take, drop, getD, set, replicate, length-set, length-drop, length-replicate, getD-replicate}
-use lib.Seq.{paste, paste-zero, length-paste, getD-drop}
-use Rattle.common.proofs.Run.{Run, run-start, run-turn, run-end, getD-past-paste, RunDown, down-start, down-turn, down-end}
+use Rattle.common.proofs.Run.{RunDown, down-start, down-turn, down-end}
 use Rattle.text_room.proofs.text.move_up.Statement.{statement}
 use Rattle.text_room.proofs.text.move_up.Tie as tie
 

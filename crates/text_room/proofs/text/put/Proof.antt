@@ -1,26 +1,26 @@
-use mathlib.Core.Path.{_≡_, refl, sym, ap, _∙_}
-use Prim.Native.Nat.{ℕ, _+_, _-_, _≤_, _<_}
+use mathlib.Core.Path.{_≡_, _∙_}
+use Prim.Native.Nat.{_+_, _-_}
 use native.Mathlib.Omega.{arith}
-use mathlib.Core.List.{List, _++_}
+use mathlib.Core.List.{_++_}
 use lib.ListN.{length, drop}
-use Rattle.text_room.proofs.Splice.{front, splice-two, splice-more, splice-less}
+use Rattle.text_room.proofs.Splice.{front, splice-two, splice-more, splice-less, copied-paste, moved}
 use borrow.Author.Needs.{needs}
 use Rattle.text_room.proofs.text.put.Statement.{statement}
 use Rattle.text_room.proofs.text.put.Tie as tie
 
-abbrev Two : tie.After-slice-known3 → Type 0
-Two k =
-    let s = k .before .before .before .before .before .before .before .before .before .before in
-    k .before .before .copy .last .0
+-- the text after the move and the copy
+two : (k : tie.After-slice-known3)
+    → let s = k .before .before .before .before .before .before .before .before .before .before in
+    k .before .before .copy-in .last .0
     ≡ front (s .args .text .now) (s .args .start) (s .args .old) (s .args .used) (s .args .new .now)
     ++ drop (s .args .used - s .args .old + length (s .args .new .now)) (s .args .text .now)
-
-two : (k : tie.After-slice-known3) → Two k
 two k =
     let m = k .before .before .before .before .before .before in
     let s = m .before .before .before .before in
+    let lent : length (m .move-text .last .0) ≡ length (s .args .text .now) = moved (s .args .text .now) (m .move-text .last .0) (s .args .start + length (s .args .new .now)) (s .args .start + s .args .old) (s .args .used - (s .args .start + s .args .old)) (m .move-text .ensures) (omega (arith, s .pre)) (omega (arith, s .pre)) in
     splice-two (s .args .text .now) (s .args .start) (s .args .old) (s .args .used) (s .args .new .now) (s .pre .0) (s .pre .1) (s .pre .2)
-    (m .move-text .last .0) (k .before .before .copy .last .0) (m .move-text .ensures) (k .before .before .copy .ensures)
+    (m .move-text .last .0) (k .before .before .copy-in .last .0) (m .move-text .ensures)
+    (k .before .before .copy-in .ensures ∙ copied-paste (m .move-text .last .0) (s .args .start) (s .args .new .now) (omega (arith, s .pre, lent)))
 
 add-from : tie.Need-add-from
 add-from c = search needs
@@ -34,8 +34,8 @@ add-to c = search needs
 move-text-requires : tie.Need-move-text-requires
 move-text-requires c κs = search needs
 
-copy-requires : tie.Need-copy-requires
-copy-requires c κs = search needs
+copy-in-requires : tie.Need-copy-in-requires
+copy-in-requires c κs = search needs
 
 add-end : tie.Need-add-end
 add-end c = search needs
@@ -54,7 +54,7 @@ returns c =
     let k = c .before .before .before .before .before in
     let s = k .before .before .before .before .before .before .before .before .before .before in
     splice-less (s .args .text .now) (s .args .start) (s .args .old) (s .args .used) (s .args .new .now) (s .pre .0) (s .pre .1) (s .pre .2)
-    (k .before .before .copy .last .0) (c .before .before .zero .last .0) _ (omega arith) (c .before .before .before .before .if1 .taken)
+    (k .before .before .copy-in .last .0) (c .before .before .zero .last .0) _ (omega arith) (c .before .before .before .before .if1 .taken)
     (two k) (c .before .before .zero .ensures)
 
 same-length-2 : tie.Need-same-length-2
@@ -65,7 +65,7 @@ returns-2 c =
     let k = c .before in
     let s = k .before .before .before .before .before .before .before .before .before .before in
     splice-more (s .args .text .now) (s .args .start) (s .args .old) (s .args .used) (s .args .new .now) (s .pre .0) (s .pre .1) (s .pre .2)
-    (k .before .before .copy .last .0) (omega arith) (two k)
+    (k .before .before .copy-in .last .0) (omega arith) (two k)
 
 pub put-spec : {M : Type 1} → statement M
 put-spec =
@@ -75,7 +75,7 @@ put-spec =
     sub-rest
     add-to
     move-text-requires
-    copy-requires
+    copy-in-requires
     add-end
     sub-zero
     zero-requires

@@ -1,11 +1,8 @@
-use mathlib.Core.Path.{_≡_, refl, sym, ap, _∙_}
-use Prim.Native.Nat.{ℕ, zero, suc, _+_, _*_, _-_, _≤_, _<_}
-use native.Mathlib.Nat.{le-refl, le-of-eq}
+use mathlib.Core.Path.{sym}
+use Prim.Native.Nat.{_-_}
 use native.Mathlib.Omega.{arith}
-use mathlib.Core.List.{List}
-use lib.ListN.{length, take, drop, getD, set, replicate, length-set, length-drop, length-replicate, getD-replicate}
-use lib.Seq.{paste, paste-zero, length-paste, getD-drop}
-use Rattle.common.proofs.Run.{Run, run-start, run-turn, run-end, getD-past-paste, RunDown, down-start, down-turn, down-end}
+use lib.ListN.{replicate, length-replicate, getD-replicate}
+use Rattle.common.proofs.Run.{Run, run-start, run-turn, run-end}
 use Rattle.text_room.proofs.text.zero.Statement.{statement}
 use Rattle.text_room.proofs.text.zero.Tie as tie
 

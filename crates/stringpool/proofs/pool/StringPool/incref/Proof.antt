@@ -1,4 +1,4 @@
-use mathlib.Core.Path.{_≡_, ap₂, _∙_}
+use mathlib.Core.Path.{ap₂, _∙_}
 use lib.IntN.{ℤ}
 use Rattle.common.specs.Answers.{Answer}
 use Rattle.stringpool.specs.Pool.{Rooms, rooms}

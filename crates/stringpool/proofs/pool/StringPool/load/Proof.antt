@@ -1,10 +1,6 @@
-use mathlib.Core.Path.{_≡_, refl, sym, ap, _∙_}
-use native.Mathlib.Omega.{arith}
-use lib.ListN.{length, take}
+use mathlib.Core.Path.{refl, sym}
 use lib.Seq.{length-take-le}
 use Rattle.stringpool.specs.Pool.{rooms}
-use Rattle.stringpool.specs.Load.{loadOutcome}
-use Rattle.stringpool.specs.inner.Load.{Loading}
 use Rattle.stringpool.proofs.Loads.{filling, loaded, load-is}
 use borrow.Author.Needs.{needs}
 use Rattle.stringpool.proofs.pool.StringPool.load.Statement.{statement}

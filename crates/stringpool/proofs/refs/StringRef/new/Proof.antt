@@ -1,11 +1,8 @@
-use mathlib.Core.Path.{_≡_, refl, sym, ap, ap₂, _∙_}
-use Prim.Native.Nat.{ℕ, suc, _+_, _-_, _*_, _≤_, _<_}
-use native.Mathlib.Omega.{arith}
-use mathlib.Core.List.{List, _++_}
-use lib.ListN.{length, take, drop, getD, set, length-drop, length-append}
+use mathlib.Core.Path.{_≡_, sym, ap, _∙_}
+use Prim.Native.Nat.{_-_}
 use lib.IntN.{ℤ}
 use mir.Syntax.{w32}
-use mir.Val.{SFits, toZ, ofZ}
+use mir.Val.{toZ, ofZ}
 use mir.ValLaws.{toZ-ofZ}
 use Rattle.stringpool.specs.inner.Refs.{placeOf}
 use Rattle.stringpool.proofs.House.{made-outside, made-in}
@@ -25,15 +22,13 @@ enum-told-2 c = search needs
 returns : tie.Need-returns
 returns c =
     let z : ℤ = c .before .before .before .args .number in
-    let fits : SFits w32 z = search needs in
-    let back : toZ w32 (ofZ w32 z) ≡ z = toZ-ofZ w32 z fits in
+    let back : toZ w32 (ofZ w32 z) ≡ z = toZ-ofZ w32 z (search needs) in
     made-outside z (ap placeOf (sym back) ∙ sym (c .before .before .place .ensures) ∙ c .enum-told .given .1)
 
 returns-2 : tie.Need-returns-2
 returns-2 c =
     let z : ℤ = c .before .before .before .args .number in
-    let fits : SFits w32 z = search needs in
-    let back : toZ w32 (ofZ w32 z) ≡ z = toZ-ofZ w32 z fits in
+    let back : toZ w32 (ofZ w32 z) ≡ z = toZ-ofZ w32 z (search needs) in
     made-in z _ back _ (ap placeOf (sym back) ∙ sym (c .before .before .place .ensures) ∙ c .enum-told2 .given .1)
 
 pub new-spec : {M : Type 1} → statement M

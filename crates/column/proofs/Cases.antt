@@ -11,7 +11,8 @@ use Rattle.common.specs.Answers.{Place, Answer, gives, refused}
 use Rattle.value.proofs.Cell.{the-type}
 use Rattle.value.specs.declared.Cell.{Cell}
 use Rattle.value.specs.declared.Cell.the-variants.{Null, Int, Str, Binary, Unknown}
-use Rattle.column.specs.inner.Forms.{integerStored, referenceStored, binaryStored, plainInteger, plainReference}
+use Rattle.column.specs.Forms.{plainInteger, plainReference}
+use Rattle.column.specs.inner.Forms.{integerStored, referenceStored, binaryStored}
 use Rattle.column.specs.declared.column.ColumnType.{ColumnType}
 use Rattle.column.specs.declared.column.ColumnType.the-variants.{Int16, Int32, Str as StrOf, Binary as BinaryOf}
 use Rattle.column.proofs.column.ColumnType as type

@@ -17,7 +17,7 @@ use Rattle.column.specs.declared.column.ColumnType.the-variants.{Int16, 
 use Rattle.column.specs.Bits.{soundType}
 use Rattle.column.specs.Cells.{width, stored, unstored, referenceNumber}
 use Rattle.column.specs.inner.Bits.{tooLong, MaximumFits}
-use Rattle.column.specs.inner.Forms.{formFor, typeIn, longIn, orZero}
+use Rattle.column.specs.Forms.{formFor, typeIn, longIn, orZero}
 
 -- ---- 19
 
@@ -74,10 +74,6 @@ width-le Int32 long = lit≤ tt
 width-le (Str max) true = lit≤ tt
 width-le (Str max) false = lit≤ tt
 width-le Binary long = lit≤ tt
-
-pub width-bound : (long : Bool) {n : ℕ} → n < 256 ^ width (Str 0) long → n < 16777216
-width-bound true h = h
-width-bound false h = omega arith
 
 -- ---- reference numbers
 

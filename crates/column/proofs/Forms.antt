@@ -6,7 +6,7 @@ use Rattle.common.specs.Choice.{if_then_else_, _=?_}
 use Rattle.common.specs.Answers.{Place, Answer, gives, refused}
 use Rattle.value.specs.declared.Cell.{Cell}
 use Rattle.value.specs.declared.Cell.the-variants.{Null, Int, Str, Binary, Unknown}
-use Rattle.value.specs.inner.Handed.{handedKind, handedNumber}
+use Rattle.value.specs.Handed.{handedKind, handedNumber}
 use Rattle.column.specs.Cells.{integer, referenceNumber}
 use Rattle.column.specs.inner.Forms.{integerStored, referenceStored, binaryStored}
 

@@ -16,7 +16,7 @@ use mir.Facts.{toZ-ofZ, toZ-pos, sfits-widen}
 use Rattle.common.specs.Choice.{if_then_else_}
 use Rattle.common.specs.Answers.{Place, gives, refused}
 use Rattle.column.specs.Cells.{integer}
-use Rattle.column.specs.inner.Signed.{biased, unbiased}
+use Rattle.column.specs.Signed.{biased, unbiased}
 
 by-order : (a b : ℕ) (t : Bool) → ltb a b ≡ t → (a < b) ⊎ (b ≤ a)
 by-order a b true e = inl (ltb-true a b e)

@@ -11,14 +11,15 @@ use Rattle.common.specs.Choice.{if_then_else_}
 use Rattle.common.specs.Answers.{Place, Answer, gives, refused}
 use Rattle.value.specs.declared.Cell.{Cell}
 use Rattle.value.specs.declared.Cell.the-variants as cell
-use Rattle.value.specs.inner.Handed.{cellOf, handedKind, handedNumber}
+use Rattle.value.specs.Handed.{cellOf, handedKind, handedNumber}
 use Rattle.column.specs.declared.column.ColumnType.{ColumnType}
 use Rattle.column.specs.declared.column.ColumnType.the-variants.{Int16, Int32, Str, Binary}
 use Rattle.column.specs.declared.form.CellForm.{CellForm}
 use Rattle.column.specs.declared.form.CellForm.the-variants as form
 use Rattle.column.specs.Cells.{stored, integer, referenceNumber}
-use Rattle.column.specs.inner.Signed.{biased}
-use Rattle.column.specs.inner.Forms.{typeIn, longIn, integerStored, referenceStored, binaryStored, plainInteger, plainReference, plainNumber, orZero}
+use Rattle.column.specs.Signed.{biased}
+use Rattle.column.specs.Forms.{typeIn, longIn, plainInteger, plainReference, plainNumber, orZero}
+use Rattle.column.specs.inner.Forms.{integerStored, referenceStored, binaryStored}
 use Rattle.column.proofs.Halves.{add-biased}
 use Rattle.column.proofs.Forms.{integer-by-kind, reference-by-kind, binary-by-kind}
 

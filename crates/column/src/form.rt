@@ -10,13 +10,17 @@ ghost use Prim.Native.Nat.{_+_, _<_, _≤_, _^_};
 ghost use Rattle.common.specs.Answers.{cell as placeOf};
 ghost use Rattle.little_endian.specs.Numbers.{numberAt};
 ghost use Rattle.value.specs.Kinds.{cellAs};
-ghost use Rattle.value.specs.inner.Handed.{handedKind, handedNumber};
+ghost use Rattle.value.specs.Handed.{handedKind, handedNumber};
 ghost use Rattle.column.specs.Cells.{width, stored, unstored, integerCell, referenceCell};
-ghost use Rattle.column.specs.inner.Forms.{typeIn, longIn, formAnswer, formAs, storedAs, integerStored, referenceStored, binaryStored, plainInteger, plainReference, plainNumber};
+ghost use Rattle.column.specs.Forms.{typeIn, longIn, formAnswer, formAs, storedAs, plainInteger, plainReference, plainNumber};
+ghost use Rattle.column.specs.inner.Forms.{integerStored, referenceStored, binaryStored};
 
 const SMALLEST: u64 = 2_147_483_648;
 
 const MAX_SHORT: u32 = 65_535;
+
+// What a column but a Binary one stores for Null.
+const NULL: u32 = 0;
 
 pub enum CellForm {
     Int16,
@@ -111,7 +115,7 @@ fn integer_stored(cell: Cell, half: u64, row: usize, column: usize) -> Stored
     ensures { λ r. ⌜ storedAs r ≡ integerStored half (placeOf row column) cell ⌝ }
 {
     if let Cell::Null = cell {
-        return Stored::Number(0);
+        return Stored::Number(NULL);
     }
     let Cell::Int(n) = cell else {
         return Stored::Refused(Refusal::CellKind { row, column });
@@ -131,7 +135,7 @@ fn reference_stored(cell: Cell, long: bool, row: usize, column: usize) -> Stored
     ensures { λ r. ⌜ storedAs r ≡ referenceStored long (placeOf row column) cell ⌝ }
 {
     if let Cell::Null = cell {
-        return Stored::Number(0);
+        return Stored::Number(NULL);
     }
     let Cell::Str(n) = cell else {
         return Stored::Refused(Refusal::CellKind { row, column });
@@ -163,11 +167,11 @@ fn integer_number(cell: Cell, half: u64) -> u32
     requires { ⌜ half ≤ 2147483648 ⌝ }
     ensures { λ r. ⌜ r ≡ plainInteger half cell ⌝ }
 {
-    let Cell::Int(n) = cell else {
-        return 0;
+    let Cell::Int(number) = cell else {
+        return NULL;
     };
     let below = SMALLEST - half;
-    let biased = crate::signed::bias(n);
+    let biased = crate::signed::bias(number);
     if biased < below {
         return 0;
     }
@@ -177,13 +181,13 @@ fn integer_number(cell: Cell, half: u64) -> u32
 fn reference_number(cell: Cell) -> u32
     ensures { λ r. ⌜ r ≡ plainReference cell ⌝ }
 {
-    let Cell::Str(n) = cell else {
-        return 0;
+    let Cell::Str(number) = cell else {
+        return NULL;
     };
-    if n < 0 {
+    if number < 0 {
         return 0;
     }
-    n as u32
+    number as u32
 }
 
 // The value of a number that the cells of a form hold.
@@ -204,7 +208,7 @@ fn integer_value(number: u32, half: u64) -> ValueRef
     requires { ⌜ (half ≤ 2147483648) × (number < half + half) ⌝ }
     ensures { λ r. ⌜ cellAs r ≡ integerCell half number ⌝ }
 {
-    if number == 0 {
+    if number == NULL {
         return ValueRef::Null;
     }
     ValueRef::Int(crate::signed::difference(number, half))
@@ -214,7 +218,7 @@ fn reference_value(number: u32) -> ValueRef
     requires { ⌜ number < 16777216 ⌝ }
     ensures { λ r. ⌜ cellAs r ≡ referenceCell number ⌝ }
 {
-    if number == 0 {
+    if number == NULL {
         return ValueRef::Null;
     }
     ValueRef::Str(StringRef(number as i32))

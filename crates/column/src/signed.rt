@@ -1,7 +1,7 @@
 // Signed numbers as the cells of an integer column hold them: n plus half the width's numbers.
 ghost use mathlib.Core.Path.{_≡_};
 ghost use Prim.Native.Nat.{_+_, _<_, _≤_};
-ghost use Rattle.column.specs.inner.Signed.{biased, unbiased};
+ghost use Rattle.column.specs.Signed.{biased, unbiased};
 
 // n + 2,147,483,648
 pub(crate) fn bias(n: i32) -> u64

@@ -109,3 +109,7 @@ module _ (ts : List ColumnType) (long : Bool) (rows : ℕ) (cells : Cells) (out 
                 le-ltb (length out) (length bytes) (omega arith),
                 l,
               )
+
+-- the same number given, and the same bytes left
+pub given-same : {m n : ℕ} {x y : List ℕ} → m ≡ n → x ≡ y → _≡_ {A = Answer ℕ × List ℕ} (gives m, x) (gives n, y)
+given-same e f = rw (e, f)

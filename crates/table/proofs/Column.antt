@@ -13,11 +13,11 @@ use Rattle.common.specs.Lists.{joined, from}
 use Rattle.common.specs.Answers.{Place, Answer, gives, refused, cell, onGiven, each, refusalOf}
 use Rattle.little_endian.specs.Numbers.{bytesOf, numberAt as numberIn}
 use Rattle.little_endian.proofs.Laws.{length-bytes}
-use Rattle.value.specs.inner.Handed.{cellOf}
+use Rattle.value.specs.Handed.{cellOf}
 use Rattle.column.specs.declared.column.ColumnType.{ColumnType}
 use Rattle.column.specs.declared.form.CellForm.{CellForm}
 use Rattle.column.specs.Cells.{width, stored, unstored}
-use Rattle.column.specs.inner.Forms.{formFor, typeIn, longIn, plainNumber}
+use Rattle.column.specs.Forms.{formFor, typeIn, longIn, plainNumber}
 use Rattle.column.proofs.Cells.{form-width, form-stored, form-unstored}
 use Rattle.column.proofs.Numbers.{fine-number}
 use Rattle.table.specs.declared.layout.Stride.{Stride}

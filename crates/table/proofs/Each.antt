@@ -55,10 +55,6 @@ each-end f k n h = rw (from-done k n h)
 
 -- ---- none is refused
 
-fine-parts : {A B : Type 0} (a : Answer A) (more : A → Answer B) (g : A → Answer (Unit {0})) → ((x : A) → refusalOf (more x) ≡ g x) → refusalOf (onGiven a more) ≡ gives tt → refusalOf a ≡ gives tt
-fine-parts (gives x) more g h e = refl
-fine-parts (refused n at) more g h e = absurd (let y : _≡_ {A = ℕ} 0 1 = cc in omega arith)
-
 pub fine-first : {A : Type 0} (f : ℕ → Answer A) (x : ℕ) (xs : List ℕ) → refusalOf (each f (x ∷ xs)) ≡ gives tt → (refusalOf (f x) ≡ gives tt) × (refusalOf (each f xs) ≡ gives tt)
 fine-first f x xs e = go (f x) refl e
   where
@@ -95,7 +91,3 @@ module _ (f : ℕ → Answer (List ℕ)) where
 pub each-same : {A : Type 0} (f g : ℕ → Answer A) (xs : List ℕ) → ((x : ℕ) → f x ≡ g x) → each f xs ≡ each g xs
 each-same f g [] h = refl
 each-same f g (x ∷ xs) h = rw (h x, each-same f g xs h)
-
-pub plain-same : (f g : ℕ → Answer (List ℕ)) (k n : ℕ) → ((x : ℕ) → f x ≡ g x) → plain f k n ≡ plain g k n
-plain-same f g k zero h = refl
-plain-same f g k (suc n) h = rw (h k, plain-same f g (suc k) n h)

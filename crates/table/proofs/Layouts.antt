@@ -19,7 +19,7 @@ use Rattle.column.specs.declared.column.Column.{Column}
 use Rattle.column.specs.Bits.{soundType}
 use Rattle.column.specs.Columns.{building, finished}
 use Rattle.column.specs.Cells.{width}
-use Rattle.column.specs.inner.Forms.{formFor, formAnswer}
+use Rattle.column.specs.Forms.{formFor, formAnswer}
 use Rattle.column.proofs.Cells.{width-le}
 use Rattle.table.specs.declared.layout.Table.{Table}
 use Rattle.table.specs.Layout.{columnsOf, typesOf, eachAt, soundColumn, soundColumns, onColumns}

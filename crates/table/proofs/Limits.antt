@@ -11,7 +11,7 @@ use Rattle.common.specs.Answers.{Place, gives, refused, refusalOf}
 use Rattle.column.specs.declared.form.CellForm.{CellForm}
 use Rattle.column.specs.declared.form.CellForm.the-variants.{Int16, Int32, ShortRef, LongRef, Binary}
 use Rattle.column.specs.Cells.{stored, integer, referenceNumber}
-use Rattle.column.specs.inner.Forms.{typeIn, longIn}
+use Rattle.column.specs.Forms.{typeIn, longIn}
 use Rattle.table.specs.inner.Limits.{limitsOf, inLimits}
 
 inside : (x : Bool) → not x ≡ true → x ≡ false

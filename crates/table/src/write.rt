@@ -23,7 +23,7 @@ ghost use Rattle.table.specs.inner.Layout.{verdictAs, Sound};
 ghost use Rattle.table.specs.inner.Columns.{formBytes, plain, Handed, Fine};
 ghost use Rattle.table.specs.inner.Limits.{limitsOf, inLimits};
 ghost use Rattle.column.specs.Cells.{stored};
-ghost use Rattle.column.specs.inner.Forms.{typeIn, longIn};
+ghost use Rattle.column.specs.Forms.{typeIn, longIn};
 
 impl Table {
     // Cells are handed over row by row.

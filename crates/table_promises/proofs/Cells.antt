@@ -14,7 +14,7 @@ use Rattle.column.specs.declared.column.ColumnType.{ColumnType}
 use Rattle.column.specs.declared.column.ColumnType.the-variants.{Int16, Int32, Str, Binary}
 use Rattle.column.specs.Check.{isBinary}
 use Rattle.column.specs.Cells.{width, integer, stored, unstored, integerCell, referenceCell, referenceNumber}
-use Rattle.column.specs.inner.Signed.{biased, unbiased}
+use Rattle.column.specs.Signed.{biased, unbiased}
 use Rattle.column.proofs.Halves.{sub-is, mag-unbiased, biased-lt, unbiased-biased, biased-unbiased, biased-zero, integer-given, within-range}
 use Rattle.column.proofs.Numbers.{integer-number, Referred, reference-number}
 use Rattle.column.proofs.Cells.{reference-any, reference-short}

@@ -1,3 +1,4 @@
 pub mod Kinds
+pub mod Handed
 pub mod Pooled
 pub mod inner

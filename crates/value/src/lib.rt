@@ -7,7 +7,7 @@ pub use crate::pooled::Value;
 use stringpool::StringRef;
 ghost use mathlib.Core.Path.{_≡_};
 ghost use Rattle.value.specs.Kinds.{kindOf, numberOf};
-ghost use Rattle.value.specs.inner.Handed.{cellOf};
+ghost use Rattle.value.specs.Handed.{cellOf};
 
 pub enum ValueRef {
     Null,

@@ -10,7 +10,7 @@ use Rattle.common.specs.Answers.{Answer, gives, refused, refusalOf, each}
 use Rattle.little_endian.specs.Numbers.{numberAt}
 use Rattle.column.specs.declared.form.CellForm.{CellForm}
 use Rattle.column.specs.Cells.{width, unstored}
-use Rattle.column.specs.inner.Forms.{typeIn, longIn}
+use Rattle.column.specs.Forms.{typeIn, longIn}
 use Rattle.table.specs.declared.layout.Stride.{Stride}
 use Rattle.table.specs.Writing.{Cells, cellBytes}
 

@@ -5,7 +5,7 @@ use Rattle.table.specs.declared.layout.Table.{Table}
 use Rattle.table.specs.Rows.{rowSize, typeAt}
 use Rattle.table.specs.Layout.{columnsOf, typesOf}
 use Rattle.column.proofs.Cells.{width-le, form-width}
-use Rattle.column.specs.inner.Forms.{typeIn, longIn}
+use Rattle.column.specs.Forms.{typeIn, longIn}
 use Rattle.column.specs.Cells.{width}
 use Rattle.column.specs.declared.column.ColumnType.{ColumnType}
 use Rattle.column.specs.declared.column.Column.{Column}

@@ -3,7 +3,7 @@ use Rattle.table.proofs.Column.{cell-part}
 use Rattle.table.proofs.Layouts.{next-le, next-is}
 use Rattle.table.proofs.Grid.{stride-turn, stride-done}
 use Rattle.table.specs.inner.Columns.{formWidth, formCell, strided}
-use Rattle.column.specs.inner.Forms.{typeIn}
+use Rattle.column.specs.Forms.{typeIn}
 use Rattle.column.specs.Cells.{unstored}
 use Rattle.value.specs.Kinds.{kindOf, numberOf, cellAs}
 use Rattle.common.specs.Lists.{from}

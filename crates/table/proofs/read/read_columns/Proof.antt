@@ -7,7 +7,7 @@ use Rattle.table.specs.Rows.{rowSize, typeAt, cellAt}
 use Rattle.table.specs.Layout.{typesOf}
 use Rattle.table.specs.declared.layout.Layout.{Layout}
 use Rattle.column.proofs.Cells.{form-width}
-use Rattle.column.specs.inner.Forms.{formFor}
+use Rattle.column.specs.Forms.{formFor}
 use Rattle.column.specs.Cells.{width}
 use lib.ListN.{length, length-map, getD, take}
 use lib.IntN.{ℤ, pos}

@@ -1,10 +1,10 @@
 -- `write::judge_cell` meets its contract: a cell within the limits is fine, any other is judged in full. Assumes nothing.
 use Rattle.table.proofs.Limits.{held}
 use Rattle.table.specs.inner.Limits.{limitsOf, inLimits}
-use Rattle.value.specs.inner.Handed.{cellOf}
+use Rattle.value.specs.Handed.{cellOf}
 use Rattle.column.proofs.Numbers.{handed-stored}
 use Rattle.column.specs.Cells.{stored}
-use Rattle.column.specs.inner.Forms.{typeIn, longIn, storedAs}
+use Rattle.column.specs.Forms.{typeIn, longIn, storedAs}
 use Rattle.common.specs.Answers.{refusalOf, cell}
 use mir.Facts.{toZ-ofZ}
 use mir.Syntax.{w32}

@@ -6,7 +6,7 @@ use Rattle.table.proofs.Each.{each-turn, each-stop, each-end}
 use Rattle.table.specs.inner.Columns.{formBytes}
 use Rattle.table.specs.inner.Layout.{verdictAs}
 use Rattle.table.specs.Writing.{Cells}
-use Rattle.column.specs.inner.Forms.{typeIn, longIn}
+use Rattle.column.specs.Forms.{typeIn, longIn}
 use Rattle.common.specs.Answers.{refusalOf, each, cell}
 use Rattle.common.specs.Lists.{from}
 use mir.Facts.{toZ-ofZ}

@@ -5,8 +5,8 @@ use Rattle.table.proofs.Each.{from-next, fine-first, plain-turn, plain-
 use Rattle.table.specs.inner.Columns.{formWidth, formBytes, givenBytes, plain}
 use Rattle.table.specs.Writing.{Cells}
 use Rattle.table.specs.declared.layout.Stride.{Stride}
-use Rattle.column.specs.inner.Forms.{plainNumber}
-use Rattle.value.specs.inner.Handed.{cellOf}
+use Rattle.column.specs.Forms.{plainNumber}
+use Rattle.value.specs.Handed.{cellOf}
 use Rattle.little_endian.proofs.Laws.{length-bytes, written}
 use Rattle.little_endian.specs.Numbers.{bytesOf, writeOutcome}
 use Rattle.common.proofs.Parts.{over-next, over-none, exact-over}

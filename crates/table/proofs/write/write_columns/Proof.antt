@@ -7,7 +7,7 @@ use Rattle.table.specs.Writing.{Cells, columnBytes}
 use Rattle.table.specs.Rows.{rowSize, typeAt}
 use Rattle.table.specs.Layout.{typesOf}
 use Rattle.column.proofs.Cells.{form-width}
-use Rattle.column.specs.inner.Forms.{formFor}
+use Rattle.column.specs.Forms.{formFor}
 use Rattle.column.specs.Cells.{width}
 use Rattle.common.proofs.Parts.{over-none, lent-turn, length-tail}
 use Rattle.common.specs.Answers.{Answer, gives, refusalOf, each}

@@ -1,6 +1,6 @@
 -- the cell's number
 use Rattle.column.proofs.Cells.{width-le}
-use Rattle.column.specs.inner.Forms.{typeIn, longIn}
+use Rattle.column.specs.Forms.{typeIn, longIn}
 use Rattle.column.specs.Cells.{width, unstored}
 use Rattle.little_endian.proofs.Laws.{number-lt}
 use Rattle.little_endian.specs.Numbers.{numberAt}

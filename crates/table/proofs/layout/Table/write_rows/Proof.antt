@@ -1,14 +1,14 @@
+-- `Table::write_rows` meets its contract: each test is the answer's next. Assumes nothing.
 use Rattle.table.specs.inner.Columns.{plain}
 use Rattle.common.specs.Lists.{_over_}
--- `Table::write_rows` meets its contract: each test is the answer's next. Assumes nothing.
-use Rattle.table.proofs.Answers.{many-rows, wrong-kinds, wrong-numbers, bad-cell, no-room, written}
+use Rattle.table.proofs.Answers.{many-rows, wrong-kinds, wrong-numbers, bad-cell, no-room, written, given-same}
 use Rattle.table.proofs.Layouts.{columns-refused, columns-passed, judged-sound, types-count, size-le}
 use Rattle.table.specs.inner.Layout.{Sound}
 use Rattle.table.specs.Writing.{Cells, writtenRows, columnBytes}
 use Rattle.table.specs.Rows.{rowSize}
 use Rattle.table.specs.Layout.{typesOf, onColumns}
 use Rattle.table.specs.declared.layout.Layout.{Layout}
-use Rattle.common.specs.Answers.{Answer, gives}
+use Rattle.common.specs.Answers.{Answer}
 use lib.ListN.{length, length-map}
 use native.Mathlib.Omega.{arith}
 use native.Mathlib.Nat.{mul-le-mul-right}
@@ -113,19 +113,17 @@ same-length c = search needs
 
 returns-7 : tie.Need-returns-7
 returns-7 c =
-    let a = c .before .before .before .before .before .before .before .before .before .before .before .before .before .before .before .before .before .before .before .args in
+    let s = c .before .before .before .before .before .before .before .before .before .before .before .before .before .before .before .before .before .before .before in
+    let a = s .args in
     let ts = typesOf (a .self) in
     let long = a .self .«long_string_refs» in
     let k = count-is (c .before .before .before .before .before .before .before .before .before .before .before .before .before .before) in
     let n = ap (λ (n : ℕ). a .rows * n) (sym k) in
     let e = rw (c .before .before .before .before .before .before .before .enum-told2 .given .1) at (c .before .before .before .before .before .before .before .before .before .judge-columns .ensures) in
-    rw (
-      passed (c .before .before .before .before .before .before .before .before .before .before .before .before .before .before),
-      written ts long (a .rows) (cellsOf (c .before .before .before .before .before .before .before .before .before .before .before .before .before .before .before .before .before .before .before)) (a .out .now) (c .before .before .before .before .before .before .before .before .before .before .before .before .before .if1 .left) (c .before .before .before .before .before .before .before .before .before .before .before .if2 .left ∙ n) (c .before .before .before .before .before .before .before .before .before .before .if3 .left ∙ n) e (rw (c .before .before .before .before .before .before .layout-of .ensures) at (c .before .before .before .before .if4 .left)),
-      c .before .before .before .before .before .before .layout-of .ensures,
-    )
-    (ap (λ (x : List ℕ). (gives (a .rows * rowSize ts long), x))
-    (c .before .before .write-columns .ensures ∙ ap (λ (n : ℕ). plain (columnBytes ts long (a .rows) (cellsOf (c .before .before .before .before .before .before .before .before .before .before .before .before .before .before .before .before .before .before .before))) 0 n over a .out .now) (sym k)))
+    let size = ap (λ (l : Layout). a .rows * l .«row_size») (c .before .before .before .before .before .before .layout-of .ensures) in
+    rw (passed (c .before .before .before .before .before .before .before .before .before .before .before .before .before .before), written ts long (a .rows) (cellsOf s) (a .out .now) (c .before .before .before .before .before .before .before .before .before .before .before .before .before .if1 .left) (c .before .before .before .before .before .before .before .before .before .before .before .if2 .left ∙ n) (c .before .before .before .before .before .before .before .before .before .before .if3 .left ∙ n) e (rw (c .before .before .before .before .before .before .layout-of .ensures) at (c .before .before .before .before .if4 .left)))
+    (given-same (omega (arith, size))
+    (c .before .before .write-columns .ensures ∙ ap (λ (n : ℕ). plain (columnBytes ts long (a .rows) (cellsOf s)) 0 n over a .out .now) (sym k)))
 
 pub write-rows-spec : {M : Type 1} → statement M
 write-rows-spec =

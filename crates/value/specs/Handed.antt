@@ -1,4 +1,5 @@
--- A cell as it is handed over, by its kind and number: the code's cases, and one kind for all that are unknown.
+-- Document 01, "Rows": a cell is handed over as "a kind (0 Null, 1 Int, 2 Str, 3 Binary) and a signed 32-bit number",
+-- and the number is "ignored on writing" for Null and Binary; all other kinds are unknown (16).
 use Prim.Native.Nat.{ℕ}
 use lib.IntN.{ℤ, pos}
 use Rattle.common.specs.Choice.{if_then_else_, _=?_}
@@ -13,6 +14,7 @@ cellOf kind n =
     else if kind =? 3 then Binary
     else Unknown
 
+-- the kind and the number again, 4 for a kind that is unknown, 0 for a number that is ignored
 abbrev pub handedKind : Cell → ℕ
 handedKind Null = 0
 handedKind (Int n) = 1

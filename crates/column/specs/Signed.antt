@@ -1,4 +1,5 @@
--- Signed numbers by way of the unsigned: n + h, and u - h, where h is half the width's numbers.
+-- Document 01, "Cells": "Int16 holds n + 32,768 in two bytes, Int32 n + 2,147,483,648 in four": a signed number by way of the
+-- unsigned, and back, where h is half the width's numbers.
 use Prim.Native.Nat.{ℕ, suc, _+_, _-_}
 use lib.IntN.{ℤ, pos, negsuc, subℕ}
 

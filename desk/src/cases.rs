@@ -68,6 +68,11 @@ fn put_entry(pool: &mut Vec<u8>, length: usize, count: u16, wide: bool) {
     }
 }
 
+/// Whether a layout by bits has a column of texts.
+fn texts_in(layout: &str) -> bool {
+    layout.split(',').filter_map(|bits| bits.parse::<i32>().ok()).any(|bits| bits & 0x800 != 0 && bits & !0x1000 != 0x900)
+}
+
 impl Cases {
     fn times(&self, at_100: usize) -> usize {
         (at_100 * self.scale).div_ceil(100)
@@ -92,14 +97,26 @@ impl Cases {
         self.long_tables(emit);
     }
 
-    /// A short list for crates/replay, which a person can read: names and pools, in commands of at most 100 characters.
-    pub fn short_list(&mut self, emit: &mut dyn FnMut(String)) {
-        const TAKEN: [&str; 9] = ["enc", "dec", "valid", "load", "take", "drop", "show", "count", "w"];
+    /// Short lists for crates/replay and crates/replay_tables, which a person can read: commands of at most 100 characters, on
+    /// names and pools, or on columns and tables.
+    pub fn short_list(&mut self, tables: bool, emit: &mut dyn FnMut(String)) {
+        const NAMES: [&str; 9] = ["enc", "dec", "valid", "load", "take", "drop", "show", "count", "w"];
+        const TABLES: [&str; 6] = ["col", "check", "read", "rows", "place", "write"];
+        let taken: &[&str] = if tables { &TABLES } else { &NAMES };
+        // The replay of `rows` has no pool: a layout with texts is left out.
+        let plain = |line: &str| !line.starts_with("rows") || line.split(' ').nth(2).is_some_and(|layout| !texts_in(layout));
         let mut short = |case: Case| {
-            for line in case.into_iter().filter(|line| line.len() <= 100 && TAKEN.iter().any(|word| line.starts_with(word))) {
+            for line in case.into_iter().filter(|line| line.len() <= 100 && plain(line) && taken.iter().any(|word| line.starts_with(word))) {
                 emit(line);
             }
         };
+        if tables {
+            self.short_columns(&mut short);
+            self.checks(&mut short);
+            self.short_tables(&mut short);
+            self.tables(&mut short);
+            return;
+        }
         self.short_names(&mut short);
         self.names(&mut short);
         self.short_pools(&mut short);

@@ -128,24 +128,33 @@ impl Run {
 
     /// Commands on lent memory: the port against what is expected of it.
     fn lent(&mut self, case: &lent::LentCase) {
-        let lines: Vec<String> = case.lines.iter().map(|(line, _)| line.clone()).collect();
-        let (krate, port) = self.both.ask(&lines);
-        for (at, answer) in port.iter().enumerate() {
-            let Some(expected) = lent::expected(case, at, &krate) else { continue };
-            // Of `held`, the rooms and the output are looked at by turns.
-            let same = match lines[at].as_str() {
-                "held" => answer.starts_with(&(expected.clone() + " ")) || answer.rsplit(' ').next() == Some(&expected),
-                _ => *answer == expected,
-            };
-            if !same {
-                println!("DIFFERED after {} commands that agreed", self.total);
-                println!("{}\n  expected: {expected}\n  port:     {answer}", lines[..=at].join("\n"));
-                std::process::exit(1);
-            }
-            *self.agreed.entry(format!("({})", case.kind)).or_default() += 1;
-            self.total += 1;
+        if let Err((at, ..)) = lent_answers(&mut self.both, case) {
+            eprintln!("\ncompare: it differs; looking for a smaller input");
+            let smallest = self.smallest_lent(case.clone());
+            println!("DIFFERED after {} commands that agreed", self.total);
+            let mut both = Both::start(&self.sides[0], &self.sides[1]).ok();
+            let found = both.as_mut().and_then(|both| lent_answers(both, &smallest).err());
+            let (at, expected, port) = found.unwrap_or((at, "(not found again)".into(), String::new()));
+            let lines: Vec<&str> = smallest.lines.iter().take(at + 1).map(|(line, _)| line.as_str()).collect();
+            println!("{}\n  expected: {expected}\n  port:     {port}", lines.join("\n"));
+            std::process::exit(1);
         }
+        let looked_at = case.lines.iter().filter(|(_, expect)| !matches!(expect, lent::Expect::Any)).count() as u64;
+        *self.agreed.entry(format!("({})", case.kind)).or_default() += looked_at;
+        self.total += looked_at;
         self.progress();
+    }
+
+    fn smallest_lent(&self, mut case: lent::LentCase) -> lent::LentCase {
+        let differs = |case: &lent::LentCase| {
+            let both = Both::start(&self.sides[0], &self.sides[1]).ok();
+            both.is_some_and(|mut both| lent_answers(&mut both, case).is_err())
+        };
+        for _ in 0..40 {
+            let Some(smaller) = case.smaller(shorter_lines).into_iter().find(|smaller| differs(smaller)) else { break };
+            case = smaller;
+        }
+        case
     }
 
     fn summary(&self) {
@@ -156,6 +165,24 @@ impl Run {
         }
         println!("{:>10}  in all, 0 differed, {} s", self.total, self.began.elapsed().as_secs());
     }
+}
+
+/// Whether the port answers a case as it has to; else where it does not, what was expected, and its answer.
+fn lent_answers(both: &mut Both, case: &lent::LentCase) -> Result<(), (usize, String, String)> {
+    let lines: Vec<String> = case.lines.iter().map(|(line, _)| line.clone()).collect();
+    let (krate, port) = both.ask(&lines);
+    for (at, answer) in port.iter().enumerate() {
+        let Some(expected) = lent::expected(case, at, &krate) else { continue };
+        // Of `held`, the rooms and the output are looked at by turns.
+        let same = match lines[at].as_str() {
+            "held" => answer.starts_with(&(expected.clone() + " ")) || answer.rsplit(' ').next() == Some(&expected),
+            _ => *answer == expected,
+        };
+        if !same {
+            return Err((at, expected, answer.clone()));
+        }
+    }
+    Ok(())
 }
 
 /// Cases with a stretch of commands left out, longest stretches first; then with a word of the last command made shorter.
@@ -209,9 +236,11 @@ fn shorter_words(word: &str) -> Vec<String> {
 
 fn main() -> std::io::Result<()> {
     let words: Vec<String> = std::env::args().skip(1).collect();
-    if words == ["--short-list"] {
-        Cases { random: random::Random::new(1), scale: 1 }.short_list(&mut |line| println!("{line}"));
-        return Ok(());
+    if let [option, of] = &words[..] {
+        if option == "--short-list" {
+            Cases { random: random::Random::new(1), scale: 1 }.short_list(of == "tables", &mut |line| println!("{line}"));
+            return Ok(());
+        }
     }
     let number = |at: usize| words.get(at).and_then(|word| word.parse::<u64>().ok());
     let (Some(seed), Some(scale)) = (number(0), number(1)) else {

@@ -4,6 +4,7 @@ use crate::language::{bytes_of, put_bytes};
 use crate::random::Random;
 
 /// What the port has to answer.
+#[derive(Clone)]
 pub enum Expect {
     /// Not looked at: the command only sets the stage.
     Any,
@@ -12,11 +13,36 @@ pub enum Expect {
     Limited(usize),
     /// The output after such a command: the result, then what was there; `width` bytes to a place.
     Left { places: usize, width: usize },
+    /// The outputs after `read`: the kinds, then the numbers, each followed by what was there.
+    LeftCells(usize),
 }
 
+#[derive(Clone)]
 pub struct LentCase {
     pub kind: &'static str,
     pub lines: Vec<(String, Expect)>,
+    /// What the case was made from, where a model knows its answers.
+    recipe: Option<Recipe>,
+}
+
+impl LentCase {
+    /// The same case with something left out: a step or an entry of its recipe, or a part of its command.
+    pub fn smaller(&self, shorter: fn(&str) -> Vec<String>) -> Vec<LentCase> {
+        if let Some(recipe) = &self.recipe {
+            return recipe.smaller().into_iter().map(in_rooms).collect();
+        }
+        let command = self.lines.iter().position(|(_, expect)| matches!(expect, Expect::Limited(places) if *places < usize::MAX));
+        let Some(at) = command else { return Vec::new() };
+        // A number of a layout that is cut in two is another layout.
+        let layout = |line: &str| line.split(' ').nth(2).filter(|_| line.starts_with('r') || line.starts_with("write")).map(String::from);
+        let same = layout(&self.lines[at].0);
+        let copies = shorter(&self.lines[at].0).into_iter().filter(|line| layout(line) == same).map(|line| {
+            let mut copy = self.clone();
+            copy.lines[at].0 = line;
+            copy
+        });
+        copies.collect()
+    }
 }
 
 /// The answers of document 01 outside the crate's reach, a command to a line; those that set the stage have no answer.
@@ -30,6 +56,19 @@ fn or_none(word: String) -> String {
     if word.is_empty() { "-".into() } else { word }
 }
 
+/// The kind and the number of each cell in an answer to `read`.
+fn cells_of(answer: &str) -> Option<Vec<(u8, i32)>> {
+    let words: Vec<&str> = answer.split(' ').collect();
+    let ["ok", _, cells] = words[..] else { return None };
+    let cells = cells.split(',').filter(|cell| *cell != "-").map(|cell| match cell.split_at(1) {
+        ("i", number) => Some((1, number.parse().ok()?)),
+        ("s", number) => Some((2, number.parse().ok()?)),
+        ("b", _) => Some((3, 0)),
+        _ => Some((0, 0)),
+    });
+    cells.collect()
+}
+
 /// How many places the result of the crate's answer takes, and its bytes as they lie in the output.
 fn result_of(line: &str, answer: &str, width: usize) -> Option<(usize, String)> {
     let mut words = answer.split(' ');
@@ -37,10 +76,17 @@ fn result_of(line: &str, answer: &str, width: usize) -> Option<(usize, String)> 
         return None;
     }
     let word = words.last()?;
-    if line.starts_with("read") {
-        return None;
+    match line.split(' ').next()? {
+        "read" => return Some((cells_of(answer)?.len(), String::new())),
+        // Each text is shown by itself: the longest has to fit.
+        "rows" => {
+            let texts = word.split(',').filter_map(|value| bytes_of(value.strip_prefix('t')?));
+            return Some((texts.map(|text| text.len()).max()?, String::new()));
+        }
+        "load" | "take" => return None,
+        _ => {}
     }
-    let bytes = bytes_of(word)?;
+    let bytes = bytes_of(word.strip_prefix('t').unwrap_or(word))?;
     let mut lying = String::new();
     // Units are written high byte first, and lie low byte first.
     for place in bytes.chunks(width) {
@@ -69,17 +115,30 @@ pub fn expected(case: &LentCase, at: usize, krate: &[String]) -> Option<String> 
             };
             Some(or_none(left))
         }
+        Expect::LeftCells(places) => {
+            let cells = cells_of(&krate[at - 1])?;
+            let cells = if cells.len() <= *places { cells } else { Vec::new() };
+            let kinds: Vec<u8> = cells.iter().map(|cell| cell.0).collect();
+            let numbers: Vec<u8> = cells.iter().flat_map(|cell| cell.1.to_le_bytes()).collect();
+            let rest = places - cells.len();
+            let left = [plain(&kinds), fill(rest), plain(&numbers), fill(4 * rest)].concat();
+            Some(or_none(left))
+        }
     }
 }
 
-fn limited(command: String, width: usize, places: usize) -> LentCase {
-    let lines = vec![
-        (format!("out {places}"), Expect::Is("ok".into())),
-        (command, Expect::Limited(places)),
-        ("held".into(), Expect::Left { places, width }),
-        ("out -".into(), Expect::Is("ok".into())),
-    ];
-    LentCase { kind: "lent output", lines }
+fn plain(bytes: &[u8]) -> String {
+    if bytes.is_empty() { String::new() } else { hex(bytes) }
+}
+
+/// A command whose output has so many places, after what sets the stage.
+fn limited(stage: &[&str], command: String, left: Expect, places: usize) -> LentCase {
+    let mut lines: Vec<(String, Expect)> = stage.iter().map(|line| (line.to_string(), Expect::Limited(usize::MAX))).collect();
+    lines.push((format!("out {places}"), Expect::Is("ok".into())));
+    lines.push((command, Expect::Limited(places)));
+    lines.push(("held".into(), left));
+    lines.push(("out -".into(), Expect::Is("ok".into())));
+    LentCase { kind: "lent output", lines, recipe: None }
 }
 
 fn hex(bytes: &[u8]) -> String {
@@ -179,40 +238,108 @@ fn small_text(random: &mut Random) -> Vec<u8> {
     (0..random.below(4)).map(|_| random.pick(b"AB")).collect()
 }
 
-/// A load and a few takes and drops in rooms that are sometimes too small, and what the rooms hold after each.
-fn in_rooms(random: &mut Random) -> LentCase {
-    let (lengths, counts, text) = (random.below(6), random.below(6), random.below(9));
+/// A step on a pool in lent rooms.
+#[derive(Clone)]
+enum Step {
+    Take(Vec<u8>),
+    Create(Vec<u8>),
+    Drop(usize),
+    Remove(usize),
+    Value(usize),
+    /// A value that is no text leaves the pool as it is.
+    Plain(&'static str, &'static str),
+}
+
+impl Step {
+    fn new(random: &mut Random) -> Step {
+        match random.below(9) {
+            0..=2 => Step::Take(small_text(random)),
+            3 | 4 => Step::Create(small_text(random)),
+            5 | 6 => Step::Drop(1 + random.below(5)),
+            7 => Step::Remove(1 + random.below(5)),
+            _ => match random.below(4) {
+                0 => Step::Plain("create i-7", "ok i-7"),
+                1 => Step::Plain("remove b", "ok"),
+                2 => Step::Plain("value n", "ok n"),
+                _ => Step::Value(1 + random.below(6)),
+            },
+        }
+    }
+
+    fn line_and_answer(&self, model: &mut Model) -> (String, String) {
+        match self {
+            Step::Take(text) => (format!("take {}", hex(text)), model.take(text)),
+            Step::Create(text) => (format!("create t{}", hex(text)), model.take(text).replace("ok ", "ok s")),
+            Step::Drop(number) => (format!("drop {number}"), model.drop(*number)),
+            Step::Remove(number) => (format!("remove s{number}"), model.drop(*number)),
+            Step::Value(number) => {
+                let text = model.entries.get(number - 1).map_or(&[][..], |entry| &entry.0);
+                (format!("value s{number}"), format!("ok t{}", hex(text)))
+            }
+            Step::Plain(line, answer) => (line.to_string(), answer.to_string()),
+        }
+    }
+}
+
+/// A load and a few steps in rooms that are sometimes too small.
+#[derive(Clone)]
+struct Recipe {
+    lengths: usize,
+    counts: usize,
+    text: usize,
+    entries: Vec<(Vec<u8>, u16)>,
+    steps: Vec<Step>,
+}
+
+impl Recipe {
+    fn new(random: &mut Random) -> Recipe {
+        let (lengths, counts, text) = (random.below(6), random.below(6), random.below(9));
+        let entries = (0..random.below(5)).map(|_| (small_text(random), random.pick(&[0, 1, 2, 65_535]))).collect();
+        Recipe { lengths, counts, text, entries, steps: (0..6).map(|_| Step::new(random)).collect() }
+    }
+
+    fn smaller(&self) -> Vec<Recipe> {
+        let mut found = Vec::new();
+        for at in 0..self.steps.len() {
+            let mut copy = self.clone();
+            copy.steps.remove(at);
+            found.push(copy);
+        }
+        for at in 0..self.entries.len() {
+            let mut copy = self.clone();
+            copy.entries.remove(at);
+            found.push(copy);
+        }
+        found
+    }
+}
+
+/// The case of a recipe, and what the rooms hold after each step.
+fn in_rooms(recipe: Recipe) -> LentCase {
+    let Recipe { lengths, counts, text, .. } = recipe;
     let mut model = Model::new(lengths, counts, text);
     let mut lines = vec![
         ("new 1252".to_string(), Expect::Is("ok".into())),
         ("lend 0 0 0".into(), Expect::Is("ok".into())),
         (format!("lend {lengths} {counts} {text}"), Expect::Is("ok".into())),
     ];
-    let entries: Vec<(Vec<u8>, u16)> =
-        (0..random.below(5)).map(|_| (small_text(random), random.pick(&[0, 1, 2, 65_535]))).collect();
     let (mut pool, mut data) = (1252u32.to_le_bytes().to_vec(), Vec::new());
-    for (text, count) in &entries {
+    for (text, count) in &recipe.entries {
         let wide = text.is_empty() && *count > 0;
         pool.extend((text.len() as u16).to_le_bytes());
         pool.extend(count.to_le_bytes());
         pool.extend(vec![0; if wide { 4 } else { 0 }]);
         data.extend(text);
     }
-    lines.push((format!("load {} {}", hex(&pool), hex(&data)), Expect::Is(model.load(entries))));
+    lines.push((format!("load {} {}", hex(&pool), hex(&data)), Expect::Is(model.load(recipe.entries.clone()))));
     lines.push(("held".into(), Expect::Is(model.held())));
-    for _ in 0..6 {
-        let (line, answer) = if random.one_in(3) {
-            let number = 1 + random.below(5);
-            (format!("drop {number}"), model.drop(number))
-        } else {
-            let text = small_text(random);
-            (format!("take {}", hex(&text)), model.take(&text))
-        };
+    for step in &recipe.steps {
+        let (line, answer) = step.line_and_answer(&mut model);
         lines.push((line, Expect::Is(answer)));
         lines.push(("held".into(), Expect::Is(model.held())));
     }
     lines.push(("lend -".into(), Expect::Is("ok".into())));
-    LentCase { kind: "lent rooms", lines }
+    LentCase { kind: "lent rooms", lines, recipe: Some(recipe) }
 }
 
 fn by_document() -> LentCase {
@@ -221,19 +348,31 @@ fn by_document() -> LentCase {
         Some((command, answer)) => (command.to_string(), Expect::Is(answer.to_string())),
         None => (line.to_string(), Expect::Any),
     });
-    LentCase { kind: "by document", lines: lines.collect() }
+    LentCase { kind: "by document", lines: lines.collect(), recipe: None }
 }
 
 pub fn cases(random: &mut Random, times: usize, emit: &mut dyn FnMut(LentCase)) {
     emit(by_document());
+    // Three texts, the middle one free and still holding a byte; and a long pool without any.
+    const POOLS: [&str; 2] = ["load e4040000030002000100000002000100 414243444546", "load e4040080 -"];
     for _ in 0..times {
+        let bytes = |places| Expect::Left { places, width: 1 };
         let units: Vec<u8> = (0..random.below(5)).flat_map(|_| [0, random.pick(b"aZ09-._%")]).collect();
-        let table = random.below(2);
-        emit(limited(format!("enc {table} {}", hex(&units)), 2, random.below(6)));
+        let (table, places) = (random.below(2), random.below(6));
+        emit(limited(&[], format!("enc {table} {}", hex(&units)), Expect::Left { places, width: 2 }, places));
         let stored: Vec<u8> = (0..random.below(4)).flat_map(|_| [random.pick(&[0x38, 0x47, 0x48, 0]), random.pick(b"\x00\x3f\x40A")]).collect();
-        emit(limited(format!("dec {}", hex(&stored)), 2, random.below(8)));
-        let cells = ["i1,s3", "n,n", "i-1,s65535", "i5,i5", "b,s1"];
-        emit(limited(format!("write 0 1282,3336 1 {}", random.pick(&cells)), 1, random.below(7)));
-        emit(in_rooms(random));
+        let places = random.below(8);
+        emit(limited(&[], format!("dec {}", hex(&stored)), Expect::Left { places, width: 2 }, places));
+        let (cells, places) = (random.pick(&["i1,s3", "n,n", "i-1,s65535", "i5,i5", "b,s1"]), random.below(7));
+        emit(limited(&[], format!("write 0 1282,3336 1 {cells}"), bytes(places), places));
+        let stream: Vec<u8> = (0..random.below(14)).map(|_| random.pick(&[0, 1, 2, 0x80, 0xff])).collect();
+        let (layout, places) = (random.pick(&["1282", "260,2304", "3328,1282"]), random.below(8));
+        emit(limited(&[], format!("read 0 {layout} {}", hex(&stream)), Expect::LeftCells(places), places));
+        let (pool, places) = (random.pick(&POOLS), random.below(20));
+        let number = 1 + random.below(4);
+        let shown = random.pick(&["show N", "value sN", "wpool", "wdata"]).replace('N', &number.to_string());
+        emit(limited(&[pool], shown, bytes(places), places));
+        emit(limited(&[pool], format!("rows 0 3328,1282 {}", hex(&stream)), Expect::Any, random.below(5)));
+        emit(in_rooms(Recipe::new(random)));
     }
 }

@@ -87,28 +87,3 @@ fn any_bytes_are_answered() {
         assert!(streamname::decode(&stored).unwrap().1);
     }
 }
-
-#[test]
-fn the_largest_sizes_are_kept() {
-    // 22: a byte more than a stream or a text may have.
-    let long = vec![0; 268_435_456];
-    let table = Table::new(vec![Column::build().int16()], false).unwrap();
-    let mut pool = StringPool::new(1252).unwrap();
-    assert_eq!(StringPool::load(&long, &[]).unwrap_err().number(), 22);
-    assert_eq!(StringPool::load(&[0; 4], &long).unwrap_err().number(), 22);
-    assert_eq!(pool.incref(&long).unwrap_err().number(), 22);
-    assert_eq!(table.num_rows(&long).unwrap_err().number(), 22);
-    assert_eq!(table.num_rows(&long[1..]).unwrap_err().number(), 14);
-    // 3: an entry too many, and 2 before it where the last is cut.
-    let mut stream = vec![0; 4 + 4 * 16_777_216 + 2];
-    assert_eq!(StringPool::load(&stream, &[]).unwrap_err().number(), 2);
-    stream.truncate(4 + 4 * 16_777_216);
-    assert_eq!(StringPool::load(&stream, &[]).unwrap_err().number(), 3);
-    // 12: as many entries as there may be, with long references, and a text that none of them has.
-    stream.truncate(4 + 4 * 16_777_215);
-    stream[..4].copy_from_slice(&(0x8000_0000u32 | 1252).to_le_bytes());
-    stream[4..].chunks_exact_mut(4).for_each(|entry| entry.copy_from_slice(&[1, 0, 0xff, 0xff]));
-    let mut pool = StringPool::load(&stream, &vec![b'A'; 16_777_215]).unwrap();
-    assert_eq!(pool.incref(b"B").unwrap_err().number(), 12);
-    assert_eq!(pool.num_strings(), 16_777_215);
-}

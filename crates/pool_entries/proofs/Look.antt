@@ -57,18 +57,14 @@ pass-next ls size from to i s x k r h g e b d p q a = record {
   sum = record { is = omega (arith, a .sum .is, total-next ls i k p (omega arith)); few = omega (arith, a .sum .few) };
 }
 
--- what is passed by in a turn, and what before it
-pub pass-in : (ls : List ℕ) (size from to i j k b s : ℕ) → j ≤ to → PassedBy ls size from to i b → PassedBy ls size i j k s → PassedBy ls size from to k s
-pass-in ls size from to i j k b s h a c = record {
-  after = omega (arith, a .after, c .after);
-  within = omega (arith, c .within);
-  others = λ m x y. go m (ltb m i) refl x y;
-  sum = c .sum;
+-- the same sum by another name
+pub pass-as : (ls : List ℕ) (size from to k s r : ℕ) → r ≡ s → PassedBy ls size from to k s → PassedBy ls size from to k r
+pass-as ls size from to k s r e a = record {
+  after = a .after;
+  within = a .within;
+  others = a .others;
+  sum = record { is = omega (arith, a .sum .is); few = omega (arith, a .sum .few) };
 }
-  where
-    go : (m : ℕ) (t : Bool) → ltb m i ≡ t → from ≤ m → m < k → getD ls m 0 ≡ size → ⊥
-    go m true f x y = a .others m x (ltb-true m i f)
-    go m false f x y = c .others m (ltb-false m i f) y
 
 -- ---- the choice, entry by entry
 

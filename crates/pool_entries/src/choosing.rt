@@ -44,7 +44,7 @@ fn scan(
 ) -> Step
     requires { ⌜ (n ≤ length (now lengths)) × (n ≤ length (now counts)) × (n ≤ 16777215) × (from ≤ to) × (to ≤ n) × (length (now new) ≤ 268435455) ⌝ }
     requires { ⌜ Ends (now new) word × Counted (now counts) from to × ScannedTo n (rooms (now lengths) (now counts) (now text)) (now new) from begin ⌝ }
-    ensures { λ r. ⌜ ScanIs n (rooms (now (lengths .entry)) (now (counts .entry)) (now (text .entry))) (now (new .entry)) to (r .at) (r .start) ⌝ }
+    ensures { λ r. ⌜ ScanIs n (rooms (now (lengths .entry)) (now (counts .entry)) (now (text .entry))) (now (new .entry)) to (r .0) (r .1) ⌝ }
 {
     let size = new.len();
     let mut start = begin;
@@ -54,23 +54,23 @@ fn scan(
         if length == size {
             let count = counts[i];
             if equal_at(count, text, start, new, word) {
-                return Step { at: i, start };
+                return Step(i, start);
             }
             start += length;
             i += 1;
         } else {
             let s = skip(lengths, i + 1, to, size, start + length);
-            start = s.start;
-            i = s.at;
+            start = s.1;
+            i = s.0;
         }
     }
-    Step { at: i, start }
+    Step(i, start)
 }
 
 // The first entry, of n, that is free or equal, in a state that may be unsound; with none, n.
 fn search(n: usize, lengths: &[u32], counts: &[u16], text: &[u8], new: &[u8]) -> Step
     requires { ⌜ (n ≤ length (now lengths)) × (n ≤ length (now counts)) × (n ≤ 16777215) × (length (now new) ≤ 268435455) ⌝ }
-    ensures { λ r. ⌜ FoundIs n (rooms (now (lengths .entry)) (now (counts .entry)) (now (text .entry))) (now (new .entry)) (r .at) (r .start) ⌝ }
+    ensures { λ r. ⌜ FoundIs n (rooms (now (lengths .entry)) (now (counts .entry)) (now (text .entry))) (now (new .entry)) (r .0) (r .1) ⌝ }
 {
     let word = last_eight(new);
     let mut start: usize = 0;
@@ -79,16 +79,16 @@ fn search(n: usize, lengths: &[u32], counts: &[u16], text: &[u8], new: &[u8]) ->
         let to = block_end(i, n, 1024);
         let free = first_free(counts, i, to);
         let s = scan(n, lengths, counts, text, new, i, free, start, word);
-        if s.at < free {
+        if s.0 < free {
             return s;
         }
         if free < to {
             return s;
         }
-        start = s.start;
+        start = s.1;
         i = to;
     }
-    Step { at: i, start }
+    Step(i, start)
 }
 
 // The sizes and the soundness are judged, and the entry is chosen that a take of new is to have.
@@ -112,8 +112,8 @@ pub fn choose(
         return Choice::Unsound;
     }
     let s = search(num_strings, lengths, counts, text, new);
-    let place = s.at;
-    let start = s.start;
+    let place = s.0;
+    let start = s.1;
     let u = used_after(num_strings, lengths, counts, text.len(), place, start);
     match u {
         Used::Unsound => Choice::Unsound,

@@ -93,7 +93,7 @@ loop-again-2 c =
     let s = l .before .before .before .before .before in
     let x = c .before .before .length-at in
     let r = c .skip .ensures in
-    let k = c .skip .result .at in
+    let k = c .skip .result .0 in
     let one = scan-other (s .args .n) (W s) (s .args .new .now) (s .pre .0 .0) (s .pre .0 .1) (l .loop .i) (l .loop .start) (x .result) (omega arith) (s .pre .1 .1 (l .loop .i) (omega arith) (omega arith)) (x .ensures .0) (x .ensures .1)
     (c .before .if1 .left) (l .loop .inv .3) in (
       omega (arith, r .after),

@@ -30,7 +30,7 @@ shared-slice-read-if1 c = omega arith
 returns : tie.Need-returns Inv-loop μ-loop
 returns c =
     let l = c .before .before .before in
-    record { after = omega arith; within = omega arith; counted = l .loop .inv .2; free = λ h. c .if1 .taken }
+    record { after = omega arith; within = omega arith; counted = l .loop .inv .2; free = λ h. omega arith }
 
 add-i : tie.Need-add-i Inv-loop μ-loop
 add-i c = omega arith

@@ -17,12 +17,12 @@ same-requires c κs = search needs
 returns : tie.Need-returns
 returns c =
     let s = c .before .before .before .before in
-    c .same .ensures ∙ sym (equal-counts (s .args .new .now) (s .args .text .now) (s .args .count) (lt-ltb _ _ (c .before .if1 .taken)))
+    c .same .ensures ∙ sym (equal-counts (s .args .new .now) (s .args .text .now) (s .args .count) (lt-ltb (s .args .count) 65535 (omega arith)))
 
 returns-2 : tie.Need-returns-2
 returns-2 c =
     let s = c .before .before .before in
-    sym (equal-full (s .args .new .now) (s .args .text .now) (s .args .count) (le-ltb _ _ (c .if1 .left)))
+    sym (equal-full (s .args .new .now) (s .args .text .now) (s .args .count) (le-ltb (s .args .count) 65535 (omega arith)))
 
 pub is-equal-spec : {M : Type 1} → statement M
 is-equal-spec = tie.close (tie.spec same-requires returns returns-2)

@@ -44,7 +44,7 @@ returns-4 : tie.Need-returns-4
 returns-4 c =
     λ ts h. let s = c .before .before .before .before .before .before .before .before .before .before .before in
     drop-more (s .args .p) (s .args .r .0) (rooms (s .args .lengths .now) (s .args .counts .now) ts)
-    (record { lengths = s .pre .0; counts = s .pre .1; text = omega (arith, s .pre .3, h) }) _ (sym (c .before .before .before .before .before .before .before .before .place .ensures) ∙ c .before .before .before .before .before .before .place2 .given .1) (c .before .before .before .if1 .left) (s .pre .2) (c .if3 .taken)
+    (record { lengths = s .pre .0; counts = s .pre .1; text = omega (arith, s .pre .3, h) }) _ (sym (c .before .before .before .before .before .before .before .before .place .ensures) ∙ c .before .before .before .before .before .before .place2 .given .1) (c .before .before .before .if1 .left) (s .pre .2) (omega (arith, c .if3 .taken))
 
 start-of-requires : tie.Need-start-of-requires
 start-of-requires c κs =

@@ -1,3 +1,4 @@
+use native.Mathlib.Omega.{arith}
 use mathlib.Core.Path.{sym, ap, ap₂, subst, _∙_}
 use Rattle.stringpool.specs.inner.Take.{takenBy, Numbered}
 use Rattle.stringpool.specs.declared.pool.StringPool.{StringPool}
@@ -20,7 +21,7 @@ enum-known-plan-3 : tie.Need-enum-known-plan-3
 enum-known-plan-3 c = search needs
 
 reference-requires-2 : tie.Need-reference-requires-2
-reference-requires-2 c κs = subst Numbered (c .before .plan3 .given .1) (c .before .before .before .pre)
+reference-requires-2 c κs = omega (arith, subst Numbered (c .before .plan3 .given .1) (c .before .before .before .pre))
 
 holding-requires : tie.Need-holding-requires
 holding-requires c κs = subst Numbered (c .before .before .plan3 .given .1) (c .before .before .before .before .pre)

@@ -1,12 +1,11 @@
-// Replays the commands of stdin, which were recorded with the crate's answers, and writes the port's: stdout holds the crate's.
+// Replays commands on names and pools, which were recorded with the crate's answers, and writes the port's: stdout holds the crate's.
 mod names;
 mod pools;
-mod shown;
-mod words;
 
-use crate::words::after;
-use crate::words::byte;
-use crate::words::end_of;
+use commands::shown;
+use commands::words::after;
+use commands::words::byte;
+use commands::words::end_of;
 use libc::STDIN_FILENO;
 use stringpool::StringPool;
 

@@ -1,9 +1,10 @@
 // Commands on the pool.
-use crate::shown;
-use crate::words::after;
-use crate::words::bytes_in;
-use crate::words::end_of;
-use crate::words::number_at;
+use commands::shown;
+use commands::words::after;
+use commands::words::bytes_in;
+use commands::words::end_of;
+use commands::words::front;
+use commands::words::number_at;
 use stringpool::Counted;
 use stringpool::Dropped;
 use stringpool::Loaded;
@@ -11,22 +12,23 @@ use stringpool::StringPool;
 use stringpool::Taken;
 use stringpool::Written;
 
-fn show_bytes(out: &[u8], n: usize) {
-    if n <= out.len() {
-        shown::bytes(&out[..n]);
+// A reference's number; 0 where it is none.
+fn given(n: i32) -> usize {
+    if n < 1 {
+        return 0;
     }
-}
-
-fn flag(on: bool) {
-    if on {
-        shown::say(b" 1 ");
-    } else {
-        shown::say(b" 0 ");
+    if n > 16_777_215 {
+        return 0;
     }
+    n as usize
 }
 
 fn reference(s: &[u8], at: usize) -> i32 {
-    number_at(s, at) as i32
+    let number = number_at(s, at);
+    if number > 2_147_483_647 {
+        return 0;
+    }
+    number as i32
 }
 
 pub(crate) fn load(
@@ -43,12 +45,14 @@ pub(crate) fn load(
     let n = bytes_in(s, at, end, &mut stream);
     let second = after(s, end);
     let m = bytes_in(s, second, end_of(s, second, false), &mut data);
-    let answer = StringPool::load(&stream[..n], &data[..m], lengths, counts, text);
+    let answer = StringPool::load(front(&stream, n), front(&data, m), lengths, counts, text);
     match answer {
         Loaded::Ready(made) => {
             shown::say(b"ok ");
             shown::number(made.codepage as usize);
-            flag(made.long_string_refs);
+            shown::say(b" ");
+            shown::flag(made.long_string_refs);
+            shown::say(b" ");
             shown::number(made.num_strings);
             made
         }
@@ -69,11 +73,11 @@ pub(crate) fn take(
 ) -> StringPool {
     let mut new = [0u8; 512];
     let n = bytes_in(s, at, end_of(s, at, false), &mut new);
-    let answer = pool.incref(lengths, counts, text, &new[..n]);
+    let answer = pool.incref(lengths, counts, text, front(&new, n));
     match answer {
-        Taken::Ref(given, after) => {
+        Taken::Ref(taken, after) => {
             shown::say(b"ok ");
-            shown::reference(given.0);
+            shown::number(given(taken.0));
             after
         }
         Taken::Refused(why) => {
@@ -148,7 +152,7 @@ fn written(answer: Written, out: &[u8]) {
     match answer {
         Written::Bytes(n) => {
             shown::say(b"ok ");
-            show_bytes(out, n);
+            shown::bytes(front(out, n));
         }
         Written::Refused(why) => shown::refused(why),
     }

@@ -34,6 +34,12 @@ say-requires c κs = search needs
 flag-requires : tie.Need-flag-requires
 flag-requires c κs = search needs
 
+slice-aggregate-say-2 : tie.Need-slice-aggregate-say-2
+slice-aggregate-say-2 c = search needs
+
+say-requires-2 : tie.Need-say-requires-2
+say-requires-2 c κs = search needs
+
 slice-aggregate-show-units : tie.Need-slice-aggregate-show-units
 slice-aggregate-show-units c = search needs
 
@@ -66,6 +72,8 @@ decode-spec =
     slice-aggregate-say
     say-requires
     flag-requires
+    slice-aggregate-say-2
+    say-requires-2
     slice-aggregate-show-units
     show-units-requires
     enum-known-answer-2

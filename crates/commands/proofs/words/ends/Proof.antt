@@ -1,0 +1,15 @@
+use borrow.Author.Tests.{lt-ltb, le-ltb, eq-eqb, ne-eqb, le-leb, lt-leb}
+use Rattle.commands.proofs.words.ends.Statement.{statement}
+use Rattle.commands.proofs.words.ends.Tie as tie
+
+returns : tie.Need-returns
+returns c = simp (eq-eqb _ _ (c .if1 .taken))
+
+returns-2 : tie.Need-returns-2
+returns-2 c = simp (ne-eqb _ _ (c .before .if1 .left), c .if2 .taken)
+
+returns-3 : tie.Need-returns-3
+returns-3 c = simp (ne-eqb _ _ (c .before .if1 .left), c .if2 .left)
+
+pub ends-spec : {M : Type 1} → statement M
+ends-spec = tie.close (tie.spec returns returns-2 returns-3)

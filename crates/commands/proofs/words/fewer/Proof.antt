@@ -1,0 +1,12 @@
+use borrow.Author.Tests.{lt-ltb, le-ltb, eq-eqb, ne-eqb, le-leb, lt-leb}
+use Rattle.commands.proofs.words.fewer.Statement.{statement}
+use Rattle.commands.proofs.words.fewer.Tie as tie
+
+returns : tie.Need-returns
+returns c = simp (lt-ltb _ _ (c .if1 .taken))
+
+returns-2 : tie.Need-returns-2
+returns-2 c = simp (le-ltb _ _ (c .if1 .left))
+
+pub fewer-spec : {M : Type 1} → statement M
+fewer-spec = tie.close (tie.spec returns returns-2)

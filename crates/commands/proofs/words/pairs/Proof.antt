@@ -1,0 +1,20 @@
+use borrow.Author.Tests.{lt-ltb, le-ltb, eq-eqb, ne-eqb, le-leb, lt-leb}
+use mathlib.Core.Path.{sym, _∙_}
+use borrow.Author.Needs.{needs}
+use Rattle.commands.proofs.words.pairs.Statement.{statement}
+use Rattle.commands.proofs.words.pairs.Tie as tie
+
+byte-requires : tie.Need-byte-requires
+byte-requires c κs = search needs
+
+returns : tie.Need-returns
+returns c = simp (eq-eqb _ _ (sym (c .before .byte .ensures) ∙ c .if1 .taken))
+
+returns-2 : tie.Need-returns-2
+returns-2 c = simp (ne-eqb _ _ (λ e. c .before .if1 .left (c .before .before .byte .ensures ∙ e)), lt-ltb _ _ (c .if2 .taken))
+
+returns-3 : tie.Need-returns-3
+returns-3 c = simp (ne-eqb _ _ (λ e. c .before .if1 .left (c .before .before .byte .ensures ∙ e)), le-ltb _ _ (c .if2 .left))
+
+pub pairs-spec : {M : Type 1} → statement M
+pairs-spec = tie.close (tie.spec byte-requires returns returns-2 returns-3)

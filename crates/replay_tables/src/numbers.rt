@@ -1,0 +1,56 @@
+// Signed numbers of the command language, by way of the unsigned: n plus 2,147,483,648.
+use commands::shown;
+use commands::words::after;
+use commands::words::byte;
+use commands::words::number_at;
+ghost use mathlib.Core.Path.{_≡_};
+ghost use Prim.Native.Nat.{_<_};
+ghost use Rattle.column.specs.inner.Signed.{biased, unbiased};
+
+fn bias(n: i32) -> u64
+    ensures { λ r. ⌜ r ≡ biased 2147483648 n ⌝ }
+{
+    (n as i64 + 2147483648) as u64
+}
+
+fn difference(u: u64) -> i32
+    requires { ⌜ u < 4294967296 ⌝ }
+    ensures { λ r. ⌜ r ≡ unbiased 2147483648 u ⌝ }
+{
+    (u as i64 - 2147483648) as i32
+}
+
+// The signed number at `at`; 0 where 32 bits do not hold it.
+pub(crate) fn signed_at(s: &[u8], at: usize) -> i32 {
+    if byte(s, at) == b'-' {
+        let n = number_at(s, after(s, at));
+        if n > 2147483648 {
+            return 0;
+        }
+        return difference(2147483648 - n);
+    }
+    let n = number_at(s, at);
+    if n > 2147483647 {
+        return 0;
+    }
+    difference(2147483648 + n)
+}
+
+// A number that is not signed; 0 where 32 bits do not hold it.
+pub(crate) fn count_at(s: &[u8], at: usize) -> u32 {
+    let n = number_at(s, at);
+    if n > 4294967295 {
+        return 0;
+    }
+    n as u32
+}
+
+pub(crate) fn show(n: i32) {
+    let u = bias(n);
+    if u < 2147483648 {
+        shown::say(b"-");
+        shown::number((2147483648 - u) as usize);
+        return;
+    }
+    shown::number((u - 2147483648) as usize);
+}

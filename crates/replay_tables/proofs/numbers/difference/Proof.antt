@@ -1,5 +1,5 @@
 use Rattle.column.proofs.Halves.{sub-fits, sub-back, unbiased-fits}
-use Rattle.column.specs.inner.Signed.{unbiased}
+use Rattle.column.specs.Signed.{unbiased}
 use lib.Dec.{lit≤}
 use mir.Facts.{toZ-ofZ}
 use mir.Syntax.{w32}

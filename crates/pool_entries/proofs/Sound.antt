@@ -1,6 +1,6 @@
 -- Laws of the judgement of a state.
 use mathlib.Core.Path.{_≡_, refl, sym, ap, ap₂, _∙_}
-use Prim.Native.Nat.{ℕ, zero, suc, _+_, _≤_, _<_, min}
+use Prim.Native.Nat.{ℕ, suc, _+_, _≤_, _<_, min}
 use native.Mathlib.Omega.{arith}
 use native.Mathlib.Numerals.{add-one}
 use mathlib.Core.Bool.{Bool, true, false, not, _&&_, _||_}
@@ -9,16 +9,15 @@ use lib.ListN.{length, take, drop, getD, length-drop}
 use lib.Seq.{drop-cons, getD-take, getD-drop, length-take-le, drop-length}
 use lib.Dec.{ltb, leb, eqb}
 use borrow.Author.Tests.{ltb-true, ltb-false, leb-true, le-ltb, lt-ltb, le-leb, lt-leb, ne-eqb}
-use Rattle.common.specs.Choice.{if_then_else_, _<?_, _≤?_, _=?_}
+use Rattle.common.specs.Choice.{if_then_else_, _≤?_, _=?_}
 use Rattle.common.specs.Lists.{total}
-use Rattle.common.specs.Answers.{Answer, gives, refused, nowhere}
+use Rattle.common.specs.Answers.{Answer, refused, nowhere}
 use Rattle.pool_entries.specs.Entries.{Entry, Rooms, cut, entryRoom, free, all}
 use Rattle.pool_entries.specs.Sound.{sound, onSound}
 use Rattle.pool_entries.specs.inner.Fit.{Fit}
 use Rattle.pool_entries.specs.inner.Adding.{Short}
 use Rattle.pool_entries.specs.inner.Look.{SmallTo}
 use Rattle.pool_entries.specs.inner.Sound.{smallB, allSmall, sumsB, fitsB, soundB, usedOf}
-use Rattle.pool_entries.specs.declared.judging.Used.{Used}
 use Rattle.pool_entries.specs.declared.judging.Used.the-variants.{Bytes, Unsound}
 
 -- ---- small entries, read from the front

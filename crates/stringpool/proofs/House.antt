@@ -1,23 +1,22 @@
 -- The private definitions equal the public ones: one law for each call.
 use mathlib.Core.Path.{_≡_, refl, sym, ap, ap₂, _∙_}
-use Prim.Native.Nat.{ℕ, _+_, _-_, _≤_, _<_, max, min}
+use Prim.Native.Nat.{ℕ, _+_, _-_, _≤_, _<_, max}
 use native.Mathlib.Omega.{arith}
-use mathlib.Core.Bool.{Bool, true, false, not, _&&_, _||_}
-use mathlib.Core.List.{List, [], _∷_, _++_}
-use lib.ListN.{length, take, drop, getD, replicate, length-append, length-replicate, length-map, length-drop, List·getD-eq-default}
-use lib.Seq.{length-take-le}
+use mathlib.Core.Bool.{Bool, true, false, not, _||_}
+use mathlib.Core.List.{List, [], _++_}
+use lib.ListN.{length, take, drop, getD, replicate, length-append, length-replicate, length-map, List·getD-eq-default}
 use lib.IntN.{ℤ, pos, negsuc, natAbs}
 use lib.Dec.{ltb, leb}
-use borrow.Author.Tests.{leb-true, leb-false, ltb-true, ltb-false, le-leb, lt-leb}
-use Rattle.common.specs.Choice.{if_then_else_, _<?_, _≤?_, _=?_}
+use borrow.Author.Tests.{leb-true, leb-false, ltb-false, le-leb, lt-leb}
+use Rattle.common.specs.Choice.{if_then_else_, _<?_}
 use Rattle.common.specs.Answers.{Answer, gives, refused, nowhere, onGiven, outcome, refusalOf}
 use Rattle.common.specs.Refusals.{refusedBy}
 use Rattle.common.specs.Lists.{_over_, total}
-use Rattle.stringpool.specs.Pool.{Entry, Rooms, rooms, cut, texts, all, free, entryRoom, sound, onSound}
+use Rattle.stringpool.specs.Pool.{Entry, Rooms, rooms, texts, all, sound, onSound}
 use Rattle.stringpool.specs.Refs.{reference, onReference, referenceTo}
 use Rattle.stringpool.specs.Show.{showAnswer, refcountAnswer, orEmpty}
 use Rattle.stringpool.specs.inner.Refs.{placeOf}
-use Rattle.stringpool.specs.inner.Sound.{allSmall, fitsB, soundB, judgeOf}
+use Rattle.stringpool.specs.inner.Sound.{soundB, judgeOf}
 use Rattle.stringpool.specs.inner.Entries.{Fit, entriesOf, putBack, lengthsOf, countsOf}
 use Rattle.stringpool.specs.inner.Drop.{none}
 use Rattle.stringpool.specs.inner.Show.{partAt, countAt}

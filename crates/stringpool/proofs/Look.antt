@@ -1,8 +1,8 @@
 -- Laws of the judgement and the choice, as the calls on plain rooms answer them.
 use mathlib.Core.Path.{_≡_, refl, sym, ap, _∙_}
-use Prim.Native.Nat.{ℕ, _≤_}
+use Prim.Native.Nat.{ℕ}
 use native.Mathlib.Omega.{arith}
-use mathlib.Core.Bool.{Bool, true, false, not}
+use mathlib.Core.Bool.{Bool, true, false}
 use mathlib.Core.List.{List}
 use lib.ListN.{length, take, getD}
 use lib.Dec.{ltb, leb, eqb}
@@ -16,7 +16,7 @@ use Rattle.stringpool.specs.Pool.{onSound}
 use Rattle.stringpool.specs.Take.{firstFreeOrEqual}
 use Rattle.stringpool.specs.inner.Entries.{Rooms, Fit, entriesOf}
 use Rattle.stringpool.specs.inner.Sound.{soundB, judgeOf}
-use Rattle.stringpool.specs.inner.Take.{chosenAt, judgeTake, chosenOf}
+use Rattle.stringpool.specs.inner.Take.{chosenAt, judgeTake}
 use Rattle.stringpool.specs.inner.Look.{LookedIs}
 use Rattle.stringpool.specs.declared.pool.StringPool.{StringPool}
 use Rattle.stringpool.specs.declared.refs.EntryPlace.{EntryPlace}

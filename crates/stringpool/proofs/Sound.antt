@@ -1,5 +1,5 @@
 -- What the judge's answer says, taken apart.
-use mathlib.Core.Path.{_≡_, refl, sym, ap, _∙_}
+use mathlib.Core.Path.{_≡_, refl}
 use Prim.Native.Nat.{ℕ, _≤_}
 use native.Mathlib.Omega.{arith}
 use mathlib.Core.Bool.{Bool, true, false}
@@ -17,7 +17,6 @@ use Rattle.stringpool.specs.inner.Take.{judgeTake}
 use Rattle.pool_entries.proofs.Sound.{fits-few}
 pub use Rattle.pool_entries.proofs.Sound.{false-true, then-second}
 use Rattle.stringpool.specs.declared.pool.StringPool.{StringPool}
-use Rattle.stringpool.specs.declared.judge.Judged.{Judged}
 use Rattle.stringpool.specs.declared.judge.Judged.the-variants as judged
 
 -- a sound pool's entries fit its rooms, and number at most 16,777,215

@@ -1,43 +1,24 @@
 -- Laws of the choice of an entry, and of what a take leaves.
-use mathlib.Core.Path.{_≡_, refl, sym, ap, ap₂, subst, _∙_}
-use Prim.Native.Nat.{ℕ, zero, suc, _+_, _-_, _≤_, _<_, max, min}
-use native.Mathlib.Nat.{zero-add, add-zero, add-suc, add-assoc}
-use native.Mathlib.Numerals.{add-one, one-add}
+use mathlib.Core.Path.{_≡_, refl, sym, ap, ap₂, _∙_}
+use Prim.Native.Nat.{ℕ, _+_, _<_}
+use native.Mathlib.Numerals.{one-add}
 use native.Mathlib.Omega.{arith}
-use mathlib.Core.Bool.{Bool, true, false, not, _&&_, _||_}
-use mathlib.Core.List.{List, [], _∷_, _++_, map, append-assoc, append-nil}
-use lib.ListN.{length, take, drop, getD, set, replicate, length-append, length-drop, length-set}
-use lib.Seq.{drop-cons, drop-length, length-take-le}
-use lib.IntN.{ℤ, pos}
-use lib.Dec.{ltb, leb, eqb}
-use borrow.Author.Tests.{eq-eqb, ne-eqb, eqb-true, eqb-false, ltb-true, lt-ltb, le-ltb, le-leb, lt-leb}
-use Rattle.common.specs.Choice.{if_then_else_, _<?_, _≤?_}
-use Rattle.common.specs.Lists.{total}
-use Rattle.stringpool.specs.inner.Entries.{Entry, Rooms, rooms, Fit, cut, entriesOf, texts, lengthsOf, countsOf, putBack}
+use mathlib.Core.Bool.{Bool, true, false, _&&_, _||_}
+use mathlib.Core.List.{List, [], _∷_}
+use lib.ListN.{length, getD}
+use lib.Dec.{ltb, eqb}
+use borrow.Author.Tests.{eq-eqb, ne-eqb, eqb-true, eqb-false, ltb-true, le-leb, lt-leb}
+use Rattle.common.specs.Choice.{if_then_else_}
+use Rattle.stringpool.specs.inner.Entries.{Entry, Rooms, Fit, entriesOf}
 use Rattle.stringpool.specs.inner.Drop.{none}
-use Rattle.stringpool.specs.inner.Sound.{judgeOf}
-use Rattle.stringpool.specs.inner.Refs.{refOf}
-use Rattle.common.specs.Answers.{Answer, gives, refused, nowhere, outcome}
-use Rattle.common.specs.Refusals.{refusedBy}
-use Rattle.stringpool.specs.Pool.{entry, entryRoom, free}
-use Rattle.stringpool.specs.Take.{sameBytes, equal, firstFreeOrEqual, increased, takenAt, counting, takeAt, takeAnswer, takeOutcome, takenAs}
+use Rattle.stringpool.specs.Pool.{free}
+use Rattle.stringpool.specs.Take.{sameBytes, equal, firstFreeOrEqual}
 use Rattle.stringpool.specs.inner.Take.{equalB, shift, choose, chosenAt, placeIn}
-use Rattle.stringpool.specs.declared.pool.StringPool.{StringPool}
-use Rattle.common.specs.declared.refusal.Refusal.{Refusal}
-use Rattle.common.specs.declared.refusal.Refusal.the-variants.{OverSize, ShortReferencesFull, EntriesFull, EntryRoom, TextRoom}
-use Rattle.stringpool.specs.declared.judge.Judged.{Judged}
-use Rattle.stringpool.specs.declared.takes.Taken.{Taken}
-use Rattle.stringpool.specs.declared.refs.StringRef.{StringRef}
-use Rattle.stringpool.specs.declared.refs.EntryPlace.{EntryPlace}
 use Rattle.stringpool.specs.declared.choice.Chosen.{Chosen}
 use Rattle.stringpool.specs.declared.choice.Chosen.the-variants.{Free, Equal, Added}
 pub use Rattle.pool_entries.proofs.Bytes.{same-eq}
-use Rattle.stringpool.proofs.Entries.{entry-at, length-entries, put-count, length-same, length-texts-at, length-texts-added}
-use Rattle.stringpool.proofs.House.{byJudge, on-sound, put-same}
+use Rattle.stringpool.proofs.Entries.{length-entries}
 use Rattle.stringpool.proofs.Drop.{count-at}
-use Rattle.stringpool.specs.Pool as house
-use Rattle.stringpool.specs.declared.judge.Judged.the-variants as judged
-use Rattle.stringpool.specs.declared.takes.Taken.the-variants as taken
 
 -- ---- what is known of the entry chosen
 

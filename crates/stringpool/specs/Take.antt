@@ -1,10 +1,10 @@
 -- What a take answers and what it leaves.
 use Prim.Native.Nat.{ℕ, _+_}
-use mathlib.Core.Bool.{Bool, true, false, not, _&&_, _||_}
+use mathlib.Core.Bool.{not, _&&_}
 use mathlib.Core.List.{List, [], _∷_, _++_}
 use lib.ListN.{length, getD, set}
 use lib.IntN.{ℤ, pos}
-use Rattle.common.specs.Choice.{if_then_else_, _<?_, _≤?_, _=?_}
+use Rattle.common.specs.Choice.{if_then_else_, _<?_, _≤?_}
 use Rattle.common.specs.Answers.{Answer, gives, refused, nowhere, outcome}
 use Rattle.common.specs.Refusals.{refusedBy}
 pub use Rattle.pool_entries.specs.Choose.{sameBytes, equal, firstPlace, Chooser, firstFreeOrEqual}

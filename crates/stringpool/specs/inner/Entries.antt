@@ -1,5 +1,5 @@
 -- A pool's entries, cut out of the lent rooms, and the rooms with a list of entries put back.
-use Prim.Native.Nat.{ℕ, _+_, _-_, _≤_, max}
+use Prim.Native.Nat.{ℕ, _-_, max}
 use mathlib.Core.List.{List, _++_, map}
 use lib.ListN.{length, take, drop, replicate}
 use Rattle.common.specs.Lists.{total}

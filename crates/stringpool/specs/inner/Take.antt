@@ -1,12 +1,11 @@
 -- Which entry the code chooses, and the judge's answer to a take.
 use Prim.Native.Nat.{ℕ, _+_, _≤_, _<_}
-use mathlib.Core.Bool.{Bool, true, false, not, _&&_}
+use mathlib.Core.Bool.{Bool, false, not, _&&_}
 use mathlib.Core.Path.{_≡_}
 use mathlib.Core.List.{List, [], _∷_}
 use lib.ListN.{length, take, getD}
 use lib.Dec.{ltb, eqb}
 use Rattle.common.specs.Lists.{total}
-use Rattle.stringpool.specs.declared.refs.EntryPlace.{EntryPlace}
 use Rattle.common.specs.Choice.{_<?_, _≤?_, if_then_else_}
 use Rattle.stringpool.specs.Pool.{Entry, Rooms}
 use Rattle.stringpool.specs.inner.Entries.{Fit, entriesOf}

@@ -1,11 +1,5 @@
-use mathlib.Core.Path.{_≡_, refl, sym, ap, ap₂, _∙_}
-use Prim.Native.Nat.{ℕ, _+_, _-_, _*_, _/_, _%_, _≤_, _<_, _^_}
 use native.Mathlib.Omega.{arith}
 use borrow.Author.Needs.{needs}
-use mathlib.Core.Bool.{Bool, true, false}
-use mathlib.Core.List.{List}
-use lib.ListN.{length, take, drop, getD}
-use Rattle.common.specs.Lists.{total}
 use Rattle.pool_entries.proofs.frees.first_free.Statement.{statement}
 use Rattle.pool_entries.proofs.frees.first_free.Tie as tie
 

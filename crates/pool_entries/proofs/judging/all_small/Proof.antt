@@ -1,12 +1,10 @@
 use borrow.Author.Needs.{needs}
-use mathlib.Core.Path.{_≡_, refl, sym, ap, ap₂, _∙_}
-use Prim.Native.Nat.{ℕ, suc, _+_, _-_, _*_, _≤_, _<_}
+use mathlib.Core.Path.{_≡_, refl, sym, _∙_}
+use Prim.Native.Nat.{_-_, _≤_}
 use native.Mathlib.Omega.{arith}
-use mathlib.Core.List.{List, [], _++_}
-use lib.ListN.{length, take, drop, getD}
-use Rattle.pool_entries.specs.Entries.{rooms}
+use lib.ListN.{take, drop}
 use borrow.Author.Tests.{not-true, not-false}
-use Rattle.pool_entries.specs.inner.Sound.{smallB, allSmall}
+use Rattle.pool_entries.specs.inner.Sound.{allSmall}
 use Rattle.pool_entries.proofs.Sound.{small-no, small-next, small-yes}
 use Rattle.pool_entries.proofs.judging.all_small.Statement.{statement}
 use Rattle.pool_entries.proofs.judging.all_small.Tie as tie

@@ -1,10 +1,3 @@
-use mathlib.Core.Path.{_≡_, refl, sym, ap, ap₂, _∙_}
-use Prim.Native.Nat.{ℕ, _+_, _-_, _*_, _/_, _%_, _≤_, _<_, _^_}
-use native.Mathlib.Omega.{arith}
-use mathlib.Core.Bool.{Bool, true, false}
-use mathlib.Core.List.{List}
-use lib.ListN.{length, take, drop, getD}
-use Rattle.common.specs.Lists.{total}
 use borrow.Author.Tests.{lt-ltb, le-ltb}
 use Rattle.pool_entries.specs.inner.Sound.{fitsB}
 use Rattle.pool_entries.proofs.judging.fits.Statement.{statement}

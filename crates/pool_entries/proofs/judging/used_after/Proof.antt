@@ -1,9 +1,7 @@
-use mathlib.Core.Path.{_≡_, refl, sym, ap, ap₂, _∙_}
-use Prim.Native.Nat.{ℕ, suc, _+_, _-_, _*_, _≤_, _<_}
+use mathlib.Core.Path.{_≡_, sym, _∙_}
+use Prim.Native.Nat.{_+_}
 use native.Mathlib.Omega.{arith}
-use mathlib.Core.List.{List, [], _++_}
-use lib.ListN.{length, take, drop, getD}
-use Rattle.pool_entries.specs.Entries.{rooms}
+use lib.ListN.{take}
 use Rattle.common.specs.Lists.{total}
 use Rattle.pool_entries.proofs.Sound.{used-over, used-sound, used-unsound, used-short}
 use borrow.Author.Needs.{needs}

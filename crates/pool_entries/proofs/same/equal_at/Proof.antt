@@ -1,12 +1,6 @@
-use mathlib.Core.Path.{_≡_, refl, sym, ap, ap₂, _∙_}
-use Prim.Native.Nat.{ℕ, _+_, _-_, _*_, _/_, _%_, _≤_, _<_, _^_}
-use native.Mathlib.Omega.{arith}
+use mathlib.Core.Path.{refl, sym}
 use borrow.Author.Needs.{needs}
-use mathlib.Core.Bool.{Bool, true, false}
-use mathlib.Core.List.{List}
-use lib.ListN.{length, take, drop, getD}
-use Rattle.common.specs.Lists.{total}
-use Rattle.pool_entries.specs.Entries.{entry}
+use lib.ListN.{length, take, drop}
 use Rattle.pool_entries.proofs.Bytes.{equal-other}
 use Rattle.pool_entries.proofs.same.equal_at.Statement.{statement}
 use Rattle.pool_entries.proofs.same.equal_at.Tie as tie

@@ -1,11 +1,6 @@
-use mathlib.Core.Path.{_≡_, refl, sym, ap, ap₂, _∙_}
-use Prim.Native.Nat.{ℕ, _+_, _-_, _*_, _/_, _%_, _≤_, _<_, _^_}
+use mathlib.Core.Path.{sym, _∙_}
 use native.Mathlib.Omega.{arith}
 use borrow.Author.Needs.{needs}
-use mathlib.Core.Bool.{Bool, true, false}
-use mathlib.Core.List.{List}
-use lib.ListN.{length, take, drop, getD}
-use Rattle.common.specs.Lists.{total}
 use borrow.Author.Tests.{lt-ltb, le-ltb}
 use Rattle.pool_entries.proofs.Bytes.{equal-counts, equal-full}
 use Rattle.pool_entries.proofs.same.is_equal.Statement.{statement}

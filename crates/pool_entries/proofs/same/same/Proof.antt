@@ -1,11 +1,7 @@
-use mathlib.Core.Path.{_≡_, refl, sym, ap, ap₂, _∙_}
-use Prim.Native.Nat.{ℕ, _+_, _-_, _*_, _/_, _%_, _≤_, _<_, _^_}
+use mathlib.Core.Path.{_≡_, refl, sym, _∙_}
+use Prim.Native.Nat.{_-_, _≤_}
 use native.Mathlib.Omega.{arith}
-use mathlib.Core.Bool.{Bool, true, false}
-use mathlib.Core.List.{List}
-use lib.ListN.{length, take, drop, getD}
-use Rattle.common.specs.Lists.{total}
-use borrow.Author.Tests.{eqb-true, eqb-false}
+use lib.ListN.{length, drop}
 use Rattle.pool_entries.specs.Choose.{sameBytes}
 use Rattle.pool_entries.proofs.Bytes.{word-differs, same-word}
 use Rattle.pool_entries.proofs.same.same.Statement.{statement}

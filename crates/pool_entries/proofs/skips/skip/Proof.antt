@@ -1,10 +1,6 @@
-use mathlib.Core.Path.{_≡_, refl, sym, ap, _∙_}
-use Prim.Native.Nat.{ℕ, _+_, _-_, _*_, _≤_, _<_}
+use Prim.Native.Nat.{_+_, _-_}
 use native.Mathlib.Omega.{arith}
-use borrow.Author.Needs.{needs}
-use mathlib.Core.List.{List}
-use lib.ListN.{length, getD}
-use Rattle.pool_entries.specs.inner.Look.{SumTo, PassedBy}
+use Rattle.pool_entries.specs.inner.Look.{PassedBy}
 use Rattle.pool_entries.proofs.Look.{pass-none, pass-next, pass-as}
 use Rattle.pool_entries.proofs.skips.skip.Statement.{statement}
 use Rattle.pool_entries.proofs.skips.skip.Tie as tie

@@ -1,6 +1,4 @@
-use mathlib.Core.Path.{_≡_, refl, sym, ap, ap₂, _∙_}
-use Prim.Native.Nat.{ℕ, _≤_, _<_}
-use native.Mathlib.Omega.{arith}
+use mathlib.Core.Path.{sym, ap, _∙_}
 use Rattle.pool_entries.specs.Calls.{chosenAs}
 use Rattle.stringpool.specs.Pool.{Rooms, rooms}
 use Rattle.stringpool.proofs.Look.{looked-refused, look-over, look-unsound, look-fit, look-done}

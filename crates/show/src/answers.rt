@@ -6,6 +6,7 @@ use column::Column;
 use column::ColumnType;
 use common::Place;
 use common::Refusal;
+ghost use mathlib.Core.Path.{_≡_};
 
 fn place(p: Place) {
     match p {
@@ -24,12 +25,16 @@ fn place(p: Place) {
 }
 
 // A refusal's number, and its place where it has one.
-pub fn reason(r: Refusal) {
+pub fn reason(r: Refusal)
+    ensures { λ r. ⌜ r ≡ tt ⌝ }
+{
     number(r.number() as u64);
     place(r.place());
 }
 
-pub fn refusal(r: Refusal) {
+pub fn refusal(r: Refusal)
+    ensures { λ r. ⌜ r ≡ tt ⌝ }
+{
     words(b"refused ");
     reason(r);
 }
@@ -49,7 +54,9 @@ fn kind_name(kind: u8) {
 }
 
 // A cell as it is handed over in bulk: its kind and its number.
-pub fn cell(kind: u8, n: i32) {
+pub fn cell(kind: u8, n: i32)
+    ensures { λ r. ⌜ r ≡ tt ⌝ }
+{
     kind_name(kind);
     signed(n);
 }
@@ -61,7 +68,9 @@ fn bracketed(kind: u8, n: i32) {
 }
 
 // Each cell after a blank; nothing where there are not as many numbers as kinds.
-pub fn cells(kinds: &[u8], numbers: &[i32]) {
+pub fn cells(kinds: &[u8], numbers: &[i32])
+    ensures { λ r. ⌜ r ≡ tt ⌝ }
+{
     if kinds.len() != numbers.len() {
         return;
     }
@@ -76,7 +85,9 @@ fn mark(on: bool, s: &[u8]) {
     }
 }
 
-pub fn column_type(t: ColumnType) {
+pub fn column_type(t: ColumnType)
+    ensures { λ r. ⌜ r ≡ tt ⌝ }
+{
     match t {
         ColumnType::Int16 => words(b"Int16"),
         ColumnType::Int32 => words(b"Int32"),
@@ -89,7 +100,9 @@ pub fn column_type(t: ColumnType) {
 }
 
 // A column's type and its marks.
-pub fn column(x: Column) {
+pub fn column(x: Column)
+    ensures { λ r. ⌜ r ≡ tt ⌝ }
+{
     let coltype = x.coltype;
     column_type(coltype);
     mark(x.is_localizable, b" localizable");

@@ -1,4 +1,5 @@
 // What the programs of runs write: words, numbers, bytes, refusals, cells, columns and pools, in document 01's words.
+// No contract can say what is written: each says that nothing is answered, and what is written is held to the programs' stdout.
 mod answers;
 mod numbers;
 mod pools;

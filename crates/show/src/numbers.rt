@@ -1,19 +1,28 @@
 // Words, numbers, bytes and units. Hexadecimal digits are upper case, as in document 01.
 use libc::STDOUT_FILENO;
+ghost use mathlib.Core.Path.{_≡_};
 
-pub fn words(s: &[u8]) {
+pub fn words(s: &[u8])
+    ensures { λ r. ⌜ r ≡ tt ⌝ }
+{
     io::write_all(STDOUT_FILENO, s);
 }
 
-pub fn newline() {
+pub fn newline()
+    ensures { λ r. ⌜ r ≡ tt ⌝ }
+{
     words(b"\n");
 }
 
-pub fn number(n: u64) {
+pub fn number(n: u64)
+    ensures { λ r. ⌜ r ≡ tt ⌝ }
+{
     io::print_decimal(STDOUT_FILENO, n);
 }
 
-pub fn signed(n: i32) {
+pub fn signed(n: i32)
+    ensures { λ r. ⌜ r ≡ tt ⌝ }
+{
     if n < 0 {
         words(b"-");
         number((0 - n as i64) as u64);
@@ -43,7 +52,9 @@ fn spaced(b: u8) {
 }
 
 // Each byte after a blank.
-pub fn bytes(s: &[u8]) {
+pub fn bytes(s: &[u8])
+    ensures { λ r. ⌜ r ≡ tt ⌝ }
+{
     for i in 0..s.len() {
         spaced(s[i]);
     }
@@ -55,7 +66,9 @@ fn unit(u: u16) {
 }
 
 // Each unit after a blank.
-pub fn units(s: &[u16]) {
+pub fn units(s: &[u16])
+    ensures { λ r. ⌜ r ≡ tt ⌝ }
+{
     for i in 0..s.len() {
         unit(s[i]);
     }

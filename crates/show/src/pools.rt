@@ -4,6 +4,7 @@ use crate::numbers::number;
 use crate::numbers::words;
 use stringpool::Counted;
 use stringpool::StringPool;
+ghost use mathlib.Core.Path.{_≡_};
 
 fn quoted(text: &[u8]) {
     words(b"\"");
@@ -45,7 +46,9 @@ fn further(p: StringPool, lengths: &[u32], counts: &[u16], text: &[u8], referenc
 }
 
 // What a pool's references show and how often they are counted, of the first three.
-pub fn entries(p: StringPool, lengths: &[u32], counts: &[u16], text: &[u8]) {
+pub fn entries(p: StringPool, lengths: &[u32], counts: &[u16], text: &[u8])
+    ensures { λ r. ⌜ r ≡ tt ⌝ }
+{
     let n = p.num_strings;
     if 0 < n {
         entry(p, lengths, counts, text, 1);

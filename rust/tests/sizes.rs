@@ -1,6 +1,7 @@
 //! The sizes of document 01 that need rooms of 33 to 268 megabytes: refusals 3, 12 and 22 at their bounds, and one below.
 
 use strandroost::calls::{self, Rooms, RoomsMut, State};
+use strandroost::Table;
 
 const MAX_ENTRIES: usize = 16_777_215;
 const MAX_BYTES: usize = 268_435_455;
@@ -68,13 +69,14 @@ fn streams_texts_and_text_rooms_above_the_size_are_22() {
     let over = vec![7; MAX_BYTES + 1];
     let most = &over[..MAX_BYTES];
     let mut small = Lent::new(1, 0, 1);
+    let table = Table::from_bitfields(&[0x502], false).unwrap();
     assert_eq!(number(calls::load(&over, &[], small.lend())), 22);
     assert_eq!(number(calls::load(&[0; 4], &over, small.lend())), 22);
     assert_eq!(number(calls::load(most, most, small.lend())), 2);
     assert_eq!(number(calls::incref(state(0, false), small.lend(), &over)), 22);
     assert_eq!(number(calls::incref(state(0, false), small.lend(), most)), 6);
-    assert_eq!(number(calls::num_rows(&[0x502], false, &over)), 22);
-    assert_eq!(number(calls::num_rows(&[0x502], false, most)), 14);
+    assert_eq!(number(table.num_rows(&over)), 22);
+    assert_eq!(number(table.num_rows(most)), 14);
     assert_eq!((small.lengths[0], small.counts[0], small.text[0]), (0, 0, 0));
 
     let mut room = Lent::new(1, 0, MAX_BYTES + 1);

@@ -4,10 +4,9 @@ use mathlib.Core.Path.{_≡_}
 use mathlib.Core.Bool.{true, false}
 use mathlib.Core.List.{List, [], _∷_, map}
 use lib.IntN.{ℤ, pos, negsuc}
-use Rattle.common.specs.Answers.{Answer, gives, column}
+use Rattle.common.specs.Answers.{gives, column}
 use Rattle.column.specs.declared.column.ColumnType.the-variants.{Str, Binary}
-use Rattle.table.specs.Writing.{Cells}
-use Rattle.cases.specs.Shown.{Asked, name, written, bits, loaded, taken, Entries, Shown, units, bytes, type, pool, answers, refuses, answered}
+use Rattle.cases.specs.Shown.{Asked, name, written, bits, loaded, taken, Shown, units, bytes, type, pool, answers, refuses, answered}
 
 pub record Case : Type 0 where
   pub asked : Asked

@@ -1,7 +1,7 @@
 -- What a case of document 01's proved table asks, and what it shows, by the definitions of the public calls.
 use Prim.Native.Nat.{ℕ}
 use mathlib.Core.Bool.{Bool, false}
-use mathlib.Core.List.{List, [], _∷_, map}
+use mathlib.Core.List.{List, map}
 use lib.IntN.{ℤ}
 use lib.ListN.{take, replicate}
 use Rattle.common.specs.Answers.{Answer, gives, refused, Place}

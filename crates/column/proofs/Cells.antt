@@ -1,16 +1,16 @@
 -- Forms and the types they stand for; cells that can be stored. Assumes nothing.
-use mathlib.Core.Path.{_≡_, refl, sym, _∙_, ap}
-use mathlib.Core.Bool.{Bool, true, false, not, _||_, _&&_}
-use Prim.Native.Nat.{ℕ, suc, _<_, _≤_, _^_}
+use mathlib.Core.Path.{_≡_, refl}
+use mathlib.Core.Bool.{Bool, true, false, _||_}
+use Prim.Native.Nat.{ℕ, _<_, _≤_}
 use native.Mathlib.Omega.{arith}
 use borrow.Author.Tests.{lt-ltb, le-ltb, ltb-true, ltb-false}
-use lib.Dec.{T, eqb, ltb, lit≤}
+use lib.Dec.{T, lit≤}
 use lib.IntN.{ℤ, pos, negsuc, natAbs}
 use lib.Signed.{ltZ, mag, nonNeg}
 use mir.Syntax.{w32}
 use mir.Val.{Fits}
 use Rattle.common.specs.Choice.{if_then_else_}
-use Rattle.common.specs.Answers.{Place, nowhere, column, Answer, gives, refused}
+use Rattle.common.specs.Answers.{Place, nowhere, column, gives, refused}
 use Rattle.stringpool.specs.Refs.{reference}
 use Rattle.column.specs.declared.column.ColumnType.{ColumnType}
 use Rattle.column.specs.declared.column.ColumnType.the-variants.{Int16, Int32, Str, Binary}

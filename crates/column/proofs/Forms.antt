@@ -3,7 +3,7 @@ use mathlib.Core.Path.{_≡_, refl}
 use mathlib.Core.Bool.{Bool}
 use Prim.Native.Nat.{ℕ}
 use Rattle.common.specs.Choice.{if_then_else_, _=?_}
-use Rattle.common.specs.Answers.{Place, Answer, gives, refused}
+use Rattle.common.specs.Answers.{Place, gives, refused}
 use Rattle.value.specs.declared.Cell.{Cell}
 use Rattle.value.specs.declared.Cell.the-variants.{Null, Int, Str, Binary, Unknown}
 use Rattle.value.specs.Handed.{handedKind, handedNumber}

@@ -1,14 +1,14 @@
 -- The number of a cell that can be stored, and of one that was handed over. Assumes nothing.
 use mathlib.Core.Path.{_≡_, refl, sym, _∙_, ap}
 use mathlib.Core.Bool.{Bool, true, false, not, _||_, _&&_}
-use Prim.Native.Nat.{ℕ, suc, zero, _+_, _-_, _<_, _≤_}
+use Prim.Native.Nat.{ℕ, suc, zero, _-_, _<_, _≤_}
 use native.Mathlib.Omega.{arith}
-use borrow.Author.Tests.{ltb-true, ltb-false, eqb-true, eqb-false, ne-eqb}
+use borrow.Author.Tests.{ltb-false, eqb-true}
 use lib.Dec.{eqb, ltb}
 use lib.IntN.{ℤ, pos, negsuc, negℤ, natAbs, _+ℤ_}
 use lib.Signed.{ltZ, mag}
 use Rattle.common.specs.Choice.{if_then_else_}
-use Rattle.common.specs.Answers.{Place, Answer, gives, refused}
+use Rattle.common.specs.Answers.{Place, gives, refused}
 use Rattle.value.specs.declared.Cell.{Cell}
 use Rattle.value.specs.declared.Cell.the-variants as cell
 use Rattle.value.specs.Handed.{cellOf, handedKind, handedNumber}

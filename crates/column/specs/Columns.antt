@@ -1,6 +1,6 @@
 -- Document 01, "Columns": a column being made, its marks, and its written bits.
 use Prim.Native.Nat.{ℕ, _+_}
-use mathlib.Core.Bool.{Bool, true, false, _||_}
+use mathlib.Core.Bool.{true, false, _||_}
 use lib.IntN.{ℤ, pos}
 use Rattle.common.specs.Choice.{if_then_else_}
 use Rattle.common.specs.Answers.{Answer, gives, onGiven}

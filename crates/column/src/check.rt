@@ -5,7 +5,6 @@ use crate::column::ValueRange;
 use common::Refusal;
 use value::ValueRef;
 ghost use mathlib.Core.Path.{_≡_};
-ghost use lib.ListN.{length};
 ghost use Rattle.value.specs.Kinds.{kindOf, numberOf};
 ghost use Rattle.column.specs.Check.{isBinary, inside, between, integerFits, textFits, suits, checkAnswer, validityAs};
 

@@ -1,11 +1,10 @@
 -- A rule of every number below a bound, from a test that antt computes once over all of them.
 use Prim.Native.Nat.{ℕ, zero, suc, _<_}
-use mathlib.Core.Path.{_≡_, refl, sym, subst}
+use mathlib.Core.Path.{sym, subst}
 use mathlib.Core.Logic.{⊎-elim}
 use mathlib.Core.Bool.{Bool, true, false, _&&_}
 use native.Mathlib.Nat.{le-of-suc-le-suc, not-suc-le-zero, eq-or-lt-of-le}
 use lib.Dec.{T}
-use Rattle.common.specs.Choice.{if_then_else_}
 
 pub both : (a b : Bool) → T (a && b) → T a × T b
 both true b t = (tt, t)
@@ -20,8 +19,3 @@ each p zero t k h = absurd (not-suc-le-zero h)
 each p (suc n) t k h =
     ⊎-elim (λ e. subst (λ (m : ℕ). T (p m)) (sym e) (both (p n) (allBelow p n) t .0)) (λ l. each p n (both (p n) (allBelow p n) t .1) k l)
     (eq-or-lt-of-le (le-of-suc-le-suc h))
-
--- what holds in both cases of a test holds of the choice
-pub by-test : {A : Type 0} (P : A → Type 0) (t : Bool) {x y : A} → (t ≡ true → P x) → (t ≡ false → P y) → P (if t then x else y)
-by-test P true f g = f refl
-by-test P false f g = g refl

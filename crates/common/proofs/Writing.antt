@@ -7,7 +7,7 @@
 --     rooms steps the same of several elements
 --     count       where nothing is to come, `at` is the result's length
 --     done        and the room has the result over it; from its front on, it is `result over before`
-use Prim.Native.Nat.{ℕ, suc, _+_, _-_, _≤_, _<_}
+use Prim.Native.Nat.{ℕ, suc, _+_, _≤_, _<_}
 use mathlib.Core.Path.{_≡_, refl, sym, ap, _∙_}
 use mathlib.Core.List.{List, [], _∷_, _++_}
 use native.Mathlib.Numerals.{add-one}

@@ -1,13 +1,10 @@
 -- The promises of specs/Promises.antt, from the laws over the width.
-use mathlib.Core.Path.{_≡_, refl, sym, ap, _∙_}
-use mathlib.Core.List.{List, append-assoc}
-use Prim.Native.Nat.{ℕ, _+_, _≤_, _<_, _^_, min}
+use mathlib.Core.Path.{_≡_, refl, sym, ap}
+use Prim.Native.Nat.{ℕ, _≤_, min}
 use native.Mathlib.Omega.{arith}
 use lib.ListN.{length, take, drop, take-append-drop, length-drop}
 use lib.Seq.{length-take-le}
-use borrow.Author.Tests.{le-ltb}
-use Rattle.common.specs.Lists.{_over_, overAt}
-use Rattle.little_endian.specs.Numbers.{bytesOf, numberAt, readAnswer, writeOutcome}
+use Rattle.little_endian.specs.Numbers.{bytesOf, readAnswer}
 use Rattle.little_endian.specs.Promises.{WriteThenRead, ReadThenWrite}
 use Rattle.little_endian.proofs.Laws.{read-back-at, write-back, written}
 

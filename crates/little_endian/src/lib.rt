@@ -4,7 +4,7 @@ ghost use mathlib.Core.Path.{_≡_};
 ghost use Prim.Native.Nat.{_+_, _≤_, min};
 ghost use lib.ListN.{length, getD};
 ghost use Rattle.common.specs.Lists.{overAt};
-ghost use Rattle.little_endian.specs.Numbers.{bytesOf, numberAt, readAnswer, writtenAs, writeOutcome};
+ghost use Rattle.little_endian.specs.Numbers.{bytesOf, readAnswer, writtenAs, writeOutcome};
 
 // A number read or written has at most four bytes.
 const MAX_WIDTH: usize = 4;

@@ -1,7 +1,6 @@
 -- The answers of the calls as C has them: the refusal and what was given, side by side, 0 for what there is none of.
 use Prim.Native.Nat.{ℕ}
 use mathlib.Core.Bool.{Bool, false}
-use mathlib.Core.List.{List}
 use Rattle.common.specs.Answers.{Answer, gives, refused, Place, nowhere, column, cell}
 use Rattle.msi_forms.specs.declared.answers.Refused.{Refused}
 use Rattle.msi_forms.specs.declared.answers.Count.{Count}

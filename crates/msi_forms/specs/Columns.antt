@@ -1,7 +1,7 @@
 -- A column as C has it, and the answers that hold one.
 use Prim.Native.Nat.{ℕ}
 use mathlib.Core.Bool.{true, false}
-use lib.IntN.{ℤ, pos}
+use lib.IntN.{pos}
 use Rattle.common.specs.Choice.{if_then_else_, _=?_}
 use Rattle.common.specs.Answers.{Answer}
 use Rattle.column.specs.Columns.{building, finished}

@@ -3,7 +3,7 @@ use Prim.Native.Nat.{ℕ}
 use mathlib.Core.Bool.{Bool, true, false}
 use mathlib.Core.List.{map}
 use lib.IntN.{ℤ, pos}
-use Rattle.common.specs.Answers.{Answer, gives, refused}
+use Rattle.common.specs.Answers.{Answer, refused}
 use Rattle.table.specs.declared.layout.Table.{Table}
 use Rattle.rows.specs.Next.{Next, another, none}
 use Rattle.msi_forms.specs.Answers.{refusalIn, givenOr}

@@ -4,7 +4,6 @@ use lib.IntN.{ℤ, pos}
 use Rattle.common.specs.Choice.{if_then_else_, _=?_}
 use Rattle.common.specs.Answers.{Answer}
 use Rattle.stringpool.specs.declared.pool.StringPool.{StringPool}
-use Rattle.stringpool.specs.declared.refs.StringRef.{StringRef}
 use Rattle.value.specs.declared.ValueRef.{ValueRef}
 use Rattle.value.specs.declared.ValueRef.the-variants as values
 use Rattle.value.specs.declared.pooled.Value.{Value}

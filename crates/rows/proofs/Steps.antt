@@ -1,6 +1,6 @@
 -- A step of the reader, and the bulk read. Assumes nothing.
 use mathlib.Core.Path.{_≡_, refl, sym, _∙_, ap}
-use mathlib.Core.List.{List, map}
+use mathlib.Core.List.{List}
 use Prim.Native.Nat.{ℕ, zero, suc, _+_, _*_, _/_, _%_, _<_, _≤_}
 use native.Mathlib.Nat.{div-add-mod', mod-lt, div-lt-iff-lt-mul, mul-zero}
 use native.Mathlib.Omega.{arith}
@@ -9,14 +9,14 @@ use lib.IntN.{ℤ, pos}
 use lib.ListN.{length, getD, drop, List·getD-append}
 use borrow.Author.Tests.{lt-ltb, le-ltb}
 use Rattle.common.specs.Lists.{_over_}
-use Rattle.common.specs.Answers.{Place, Answer, gives, refused}
+use Rattle.common.specs.Answers.{Place, gives, refused}
 use Rattle.column.proofs.Halves.{lt-or-le}
 use Rattle.table.specs.declared.layout.Table.{Table}
 use Rattle.table.specs.Layout.{typesOf}
 use Rattle.table.specs.Rows.{cellAt, rowByRow}
 use Rattle.table.specs.Reading.{numRowsAnswer, readRowsOutcome}
 use Rattle.table.proofs.Grid.{length-grid, grid-at}
-use Rattle.rows.specs.Next.{another, none, cellsOf, atTh, nextAnswer, nextOutcome}
+use Rattle.rows.specs.Next.{another, none, cellsOf, nextOutcome}
 use Rattle.rows.specs.Promises.{SameCells}
 
 pub positive : (n : ℕ) → (n ≡ 0 → ⊥) → 0 < n

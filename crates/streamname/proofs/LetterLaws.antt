@@ -1,6 +1,6 @@
 -- Laws of the 64 letters: the code's ranges are the list's places, and a letter's number gives it back.
 -- Each is one computed test over all the units below 0x7B, past which there is no letter, or over all 64 numbers.
-use Prim.Native.Nat.{ℕ, suc, _+_, _-_, _≤_, _<_}
+use Prim.Native.Nat.{ℕ, _+_, _-_, _≤_, _<_}
 use mathlib.Core.Path.{_≡_, refl, sym, ap, _∙_}
 use mathlib.Core.Logic.{_≢_}
 use mathlib.Core.Bool.{Bool, true, false, _&&_}
@@ -9,11 +9,11 @@ use mathlib.Core.Option.{Option, none, some}
 use native.Mathlib.Omega.{arith}
 use native.Mathlib.Decide.{decLt}
 use lib.Dec.{T, leb, ltb, eqb, ltb→lt, eqb→eq}
-use lib.ListN.{length, getD, List·getD-eq-default}
-use borrow.Author.Tests.{le-leb, lt-leb, lt-ltb, ne-eqb, leb-true}
+use lib.ListN.{length, List·getD-eq-default}
+use borrow.Author.Tests.{le-leb, lt-leb, ne-eqb, leb-true}
 use Rattle.common.specs.Choice.{if_then_else_, _<?_, _=?_}
 use Rattle.common.proofs.Below.{both, allBelow, each}
-use Rattle.streamname.specs.Letters.{letters, next, placeIn, toB64, fromB64}
+use Rattle.streamname.specs.Letters.{letters, placeIn, toB64, fromB64}
 use Rattle.streamname.specs.Names.{between}
 
 pub inside : (low high u : ℕ) → low ≤ u → u ≤ high → between low high u ≡ true

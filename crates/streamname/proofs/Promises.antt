@@ -1,16 +1,15 @@
 -- The promises of specs/Promises.antt about sizes and calls; RoundTrip.antt has the round trip.
-use Prim.Native.Nat.{ℕ, _+_, _≤_}
+use Prim.Native.Nat.{ℕ, _≤_}
 use mathlib.Core.Path.{_≡_, refl, sym, ap, _∙_}
-use mathlib.Core.Logic.{_↔_}
 use mathlib.Core.Bool.{Bool, _||_}
-use mathlib.Core.List.{List, _++_}
+use mathlib.Core.List.{List}
 use native.Mathlib.Omega.{arith}
-use lib.ListN.{length, take, drop}
+use lib.ListN.{length, take}
 use lib.Seq.{take-at}
 use Rattle.common.specs.Sizes.{maxName, maxStored}
 use Rattle.common.specs.Lists.{_over_}
 use Rattle.common.specs.Choice.{_<?_}
-use Rattle.common.specs.Answers.{Answer, gives, refused, nowhere}
+use Rattle.common.specs.Answers.{gives, nowhere}
 use Rattle.common.proofs.Outcomes.{past, outcome-gives, wrote as fitted}
 use Rattle.streamname.specs.Names.{encodedName, decodedName, isTable}
 use Rattle.streamname.specs.Calls.{encodeOutcome, decodeAnswer, decodeOutcome}

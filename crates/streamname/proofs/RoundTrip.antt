@@ -1,17 +1,16 @@
 -- Decoding an encoded name returns name and flag exactly when no unit lies in 0x3800-0x483F and a plain name does not begin with 0x4840.
 use Prim.Native.Nat.{ℕ, zero, suc, _+_, _*_, _-_, _/_, _%_, _≤_, _<_, suc-le-suc}
-use mathlib.Core.Path.{_≡_, refl, sym, ap, _∙_}
-use mathlib.Core.Logic.{_↔_, _≢_}
-use mathlib.Core.Bool.{Bool, true, false, true≢false}
+use mathlib.Core.Path.{_≡_, refl, sym, _∙_}
+use mathlib.Core.Bool.{true, false, true≢false}
 use mathlib.Core.List.{List, [], _∷_, _++_}
 use mathlib.Core.Option.{Option, none, some}
 use native.Mathlib.Nat.{le-of-suc-le-suc, not-suc-le-zero}
-use native.Mathlib.Decide.{decLt, decLe}
+use native.Mathlib.Decide.{decLe}
 use native.Mathlib.Omega.{arith}
 use lib.ListN.{length, getD}
 use borrow.Author.Tests.{ne-eqb, eqb-false}
 use Rattle.streamname.specs.Letters.{toB64, fromB64}
-use Rattle.streamname.specs.Names.{encoded, encodedName, undone, decoded, isTable, decodedName}
+use Rattle.streamname.specs.Names.{encoded, undone, decoded, isTable, decodedName}
 use Rattle.streamname.specs.Promises.{Coded, Returns, RoundTrip}
 use Rattle.streamname.proofs.LetterLaws.{letter-below, letter-back, from-small, letter-small}
 use Rattle.streamname.proofs.EncodeLaws.{passes, lone-last, lone, paired}

@@ -1,17 +1,15 @@
 -- 01's way of choosing is legal.
-use mathlib.Core.Path.{_≡_, refl, sym, ap, _∙_}
-use Prim.Native.Nat.{ℕ, zero, suc, _+_, _≤_, _<_}
+use mathlib.Core.Path.{_≡_, refl}
+use Prim.Native.Nat.{ℕ, _+_, _≤_, _<_}
 use native.Mathlib.Nat.{le-of-suc-le-suc, not-suc-le-zero}
 use native.Mathlib.Numerals.{add-one}
 use native.Mathlib.Omega.{arith}
-use mathlib.Core.Bool.{Bool, true, false, not, _&&_, _||_}
+use mathlib.Core.Bool.{Bool, true, false, _||_}
 use mathlib.Core.List.{List, [], _∷_}
 use lib.ListN.{length, getD}
-use lib.Dec.{ltb}
-use borrow.Author.Tests.{ltb-true}
-use Rattle.common.specs.Choice.{if_then_else_, _<?_}
+use Rattle.common.specs.Choice.{if_then_else_}
 use Rattle.stringpool.specs.Pool.{Entry, entry, free}
-use Rattle.stringpool.specs.Take.{equal, firstPlace, firstFreeOrEqual}
+use Rattle.stringpool.specs.Take.{equal, firstPlace}
 use Rattle.stringpool_promises.specs.Promises.{ChoosesLegally}
 
 -- the first place is one of the list or the place after the last, and what stands there passes

@@ -3,22 +3,21 @@ use mathlib.Core.Path.{_≡_, refl, sym, ap, ap₂, subst, _∙_}
 use Prim.Native.Nat.{ℕ, zero, suc, _+_, _-_, _≤_, _<_, max}
 use native.Mathlib.Omega.{arith}
 use mathlib.Core.Bool.{Bool, true, false}
-use mathlib.Core.List.{List, [], _∷_, _++_, map}
-use lib.ListN.{length, take, drop, getD, set, replicate, length-append, length-drop, length-replicate, length-map, length-set}
+use mathlib.Core.List.{List, [], _∷_, _++_}
+use lib.ListN.{length, take, drop, getD, set, replicate, length-append, length-drop, length-replicate, length-map}
 use lib.Seq.{take-at}
-use lib.Dec.{leb, ltb, eqb}
-use borrow.Author.Tests.{leb-true, leb-false, le-ltb, le-leb, ne-eqb}
+use lib.Dec.{leb, eqb}
+use borrow.Author.Tests.{leb-false, ne-eqb}
 use Rattle.common.specs.Choice.{if_then_else_}
 use Rattle.stringpool.specs.Pool.{Entry, entry, Rooms, texts, free, sound}
 use Rattle.common.specs.Lists.{total}
 use Rattle.stringpool.specs.Take.{increased, takenAt}
 use Rattle.stringpool.specs.Drop.{lessened}
-use Rattle.stringpool_promises.specs.Promises.{State, SoundState}
-use Rattle.stringpool.specs.inner.Sound.{smallB, allSmall, sumsB, soundB}
-use Rattle.stringpool.specs.inner.Entries.{Fit, entriesOf, lengthsOf, countsOf, putBack}
+use Rattle.stringpool.specs.inner.Sound.{smallB, allSmall}
+use Rattle.stringpool.specs.inner.Entries.{entriesOf, lengthsOf, countsOf, putBack}
 use Rattle.stringpool.specs.inner.Drop.{none}
 use Rattle.stringpool.specs.declared.pool.StringPool.{StringPool}
-use Rattle.stringpool.proofs.Entries.{both, length-entries, lengths-cut, counts-cut}
+use Rattle.stringpool.proofs.Entries.{both, lengths-cut, counts-cut}
 use Rattle.stringpool.proofs.Sound.{SoundFit, then-second}
 use Rattle.stringpool.proofs.House.{put-same}
 use Rattle.stringpool_promises.proofs.Sounds.{fit-sound}

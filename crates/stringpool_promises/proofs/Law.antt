@@ -1,22 +1,22 @@
 -- Demand 3: each call's outcome taken apart, its step of the law, and then any list of calls.
 use mathlib.Core.Path.{_≡_, refl, sym, ap, ap₂, subst, _∙_}
-use Prim.Native.Nat.{ℕ, zero, suc, _+_, _-_, _≤_, _<_, min}
+use Prim.Native.Nat.{ℕ, _+_, _-_, _≤_, _<_}
 use native.Mathlib.Numerals.{add-one}
 use native.Mathlib.Omega.{arith}
 use mathlib.Core.Bool.{Bool, true, false, not, _&&_, _||_}
 use mathlib.Core.List.{List, [], _∷_, _++_, map}
-use lib.ListN.{length, take, drop, getD, set, length-set}
+use lib.ListN.{length, getD, set, length-set}
 use lib.IntN.{ℤ, pos, negsuc, natAbs}
 use lib.Dec.{leb, ltb, eqb, eqb·suc-suc}
-use borrow.Author.Tests.{leb-true, leb-false, eqb-false, le-leb, ltb-true, ltb-false, le-ltb, lt-ltb, ne-eqb}
-use Rattle.common.specs.Choice.{if_then_else_, _<?_, _≤?_, _=?_}
+use borrow.Author.Tests.{leb-true, leb-false, eqb-false, le-leb, ltb-true, ltb-false, le-ltb, ne-eqb}
+use Rattle.common.specs.Choice.{if_then_else_}
 use Rattle.common.specs.Answers.{Answer, gives, refused, Place, nowhere, onGiven, outcome}
-use Rattle.stringpool.specs.Pool.{Entry, entry, Rooms, entriesOf, putBack, texts, entryRoom, sound, onSound}
+use Rattle.stringpool.specs.Pool.{Entry, Rooms, entriesOf, putBack, texts, entryRoom, sound, onSound}
 use Rattle.stringpool.specs.Refs.{onReference}
-use Rattle.stringpool.specs.Take.{sameBytes, Chooser, takenAt, counting, takeAt, takeAnswer, takeOutcome}
-use Rattle.stringpool.specs.Drop.{lessened, dropAt, dropAnswer, dropOutcome}
-use Rattle.stringpool.specs.Show.{orEmpty, showAnswer, refcountAnswer}
-use Rattle.stringpool_promises.specs.Promises.{State, Call, take-of, drop-of, Legal, AllLegal, left, after, ran, SoundState, entries, shows, countOr0, count, accepted, sameNumber, answers, one, tally, countFor, sumFor, took, gaveUp, tookRef, gaveUpRef, StaysCounted, Demand3, CountsKept, Op, takes, drops, asCall, CallsKept}
+use Rattle.stringpool.specs.Take.{sameBytes, Chooser, takenAt, counting, takeAt, takeAnswer}
+use Rattle.stringpool.specs.Drop.{lessened, dropAt, dropAnswer}
+use Rattle.stringpool.specs.Show.{orEmpty}
+use Rattle.stringpool_promises.specs.Promises.{State, Call, take-of, drop-of, Legal, AllLegal, left, after, ran, SoundState, entries, shows, countOr0, count, accepted, sameNumber, answers, one, tally, sumFor, took, gaveUp, tookRef, gaveUpRef, StaysCounted, CountsKept, Op, takes, drops, asCall, CallsKept}
 use Rattle.stringpool_promises.proofs.Choosers.{first-free-or-equal}
 use Rattle.stringpool.specs.inner.Drop.{none}
 use Rattle.stringpool.specs.declared.pool.StringPool.{StringPool}

@@ -1,19 +1,14 @@
 -- Laws on lists of entries: what a put back list is, and sums and entries after one is replaced or added.
 use mathlib.Core.Path.{_≡_, refl, sym, ap, ap₂, _∙_}
-use Prim.Native.Nat.{ℕ, zero, suc, _+_, _-_, _≤_, _<_, max}
-use native.Mathlib.Nat.{add-zero, zero-add, add-assoc, add-comm, le-of-suc-le-suc, not-suc-le-zero}
+use Prim.Native.Nat.{ℕ, zero, suc, _+_, _-_, _<_, max}
+use native.Mathlib.Nat.{le-of-suc-le-suc, not-suc-le-zero}
 use native.Mathlib.Omega.{arith}
-use mathlib.Core.Bool.{Bool, true, false}
-use mathlib.Core.List.{List, [], _∷_, _++_, map, append-assoc}
+use mathlib.Core.List.{List, [], _∷_, _++_, append-assoc}
 use lib.ListN.{length, take, drop, getD, set, replicate, length-map}
-use lib.Seq.{take-at, drop-at, getD-set-same, getD-set-other}
-use borrow.Author.Tests.{eqb-true, eqb-false}
-use lib.Dec.{leb, eqb, eqb·zero-suc, eqb·suc-zero, eqb·suc-suc}
-use Rattle.common.specs.Choice.{if_then_else_}
+use lib.Seq.{take-at, drop-at}
 use Rattle.common.specs.Lists.{total}
 use Rattle.stringpool.specs.inner.Entries.{Entry, Rooms, cut, entriesOf, texts, lengthsOf, countsOf, putBack}
 use Rattle.stringpool.specs.inner.Drop.{none}
-use Rattle.stringpool.specs.inner.Take.{sameBytes}
 use Rattle.stringpool_promises.specs.Promises.{countFor, sumFor}
 
 -- entries put end to end are cut apart again

@@ -1,25 +1,25 @@
 -- What an accepted load says, taken apart; and that its state is sound.
 use mathlib.Core.Path.{_≡_, refl, sym, ap, ap₂, subst, _∙_}
-use Prim.Native.Nat.{ℕ, zero, suc, _+_, _*_, _-_, _%_, _≤_, _<_, min, max, _^_}
+use Prim.Native.Nat.{ℕ, zero, suc, _+_, _≤_, _<_}
 use native.Mathlib.Omega.{arith}
-use mathlib.Core.Bool.{Bool, true, false, not, _&&_, _||_}
-use mathlib.Core.List.{List, [], _∷_, _++_, map}
+use mathlib.Core.Bool.{Bool, true, false, _&&_, _||_}
+use mathlib.Core.List.{List, _∷_}
 use lib.Dec.{ltb, leb, eqb}
-use Rattle.common.specs.Choice.{if_then_else_, _<?_, _≤?_, _=?_}
-use Rattle.common.specs.Lists.{_over_, total, joined}
+use Rattle.common.specs.Choice.{if_then_else_}
+use Rattle.common.specs.Lists.{_over_, total}
 use Rattle.common.specs.Answers.{Answer, gives, refused, Place, nowhere, outcome, onGiven}
 use Rattle.stringpool.specs.declared.pool.StringPool.{StringPool}
-use lib.ListN.{length, take, drop, getD, length-drop, length-append}
+use lib.ListN.{length, take, drop, length-drop, length-append}
 use lib.Seq.{getD-drop, length-take-le, take-at}
 use borrow.Author.Tests.{ltb-true, ltb-false, le-leb, eqb-true, eqb-false, ne-eqb}
 use Rattle.little_endian.specs.Numbers.{numberAt}
 use Rattle.little_endian.specs.Promises.{AreBytes}
 use Rattle.little_endian.proofs.Laws.{number-lt}
-use Rattle.stringpool.specs.Pool.{Rooms, rooms, entryRoom, sound}
-use Rattle.stringpool.specs.Load.{Found, one, cut, ends, entryIn, withEntry, onFound, entriesIn, poolEntries, poolFrom, loadEntries, loadAnswer, loadOutcome}
+use Rattle.stringpool.specs.Pool.{Rooms, rooms, entryRoom}
+use Rattle.stringpool.specs.Load.{Found, one, cut, ends, entryIn, onFound, entriesIn, poolEntries, poolFrom, loadEntries, loadAnswer, loadOutcome}
 use Rattle.stringpool.specs.inner.Sound.{smallB, allSmall}
 use Rattle.stringpool.proofs.Sound.{SoundFit, false-true}
-use Rattle.stringpool_promises.specs.Promises.{State, SoundState, LoadsSound}
+use Rattle.stringpool_promises.specs.Promises.{LoadsSound}
 use Rattle.stringpool_promises.proofs.Sounds.{fit-sound}
 
 -- ---- one entry, by what stands there

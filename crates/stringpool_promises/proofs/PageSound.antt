@@ -1,19 +1,16 @@
 -- A new pool is sound, and one with another code page.
 use mathlib.Core.Path.{_≡_, refl, sym, ap, ap₂, subst, _∙_}
-use Prim.Native.Nat.{ℕ, _+_, _≤_, _<_}
+use Prim.Native.Nat.{ℕ, _≤_}
 use native.Mathlib.Omega.{arith}
 use mathlib.Core.Bool.{Bool, true, false, not}
-use mathlib.Core.List.{List, []}
-use lib.ListN.{length, take}
-use lib.Dec.{ltb, leb}
-use borrow.Author.Tests.{ltb-false, le-ltb, le-leb}
+use lib.ListN.{length}
+use lib.Dec.{ltb}
+use borrow.Author.Tests.{ltb-false, le-ltb}
 use Rattle.common.specs.Choice.{if_then_else_}
-use Rattle.common.specs.Answers.{Answer, gives, refused, Place, nowhere}
+use Rattle.common.specs.Answers.{gives, refused, nowhere}
 use Rattle.stringpool.specs.Pool.{Rooms, sound, onSound}
-use Rattle.common.specs.Lists.{total}
-use Rattle.stringpool.specs.Pages.{pageAnswer, newAnswer, setPageAnswer}
-use Rattle.stringpool_promises.specs.Promises.{State, SoundState, MakesSound, PageSound}
-use Rattle.stringpool.specs.inner.Sound.{allSmall, sumsB, soundB}
+use Rattle.stringpool.specs.Pages.{pageAnswer}
+use Rattle.stringpool_promises.specs.Promises.{SoundState, MakesSound, PageSound}
 use Rattle.stringpool.specs.declared.pool.StringPool.{StringPool}
 use Rattle.stringpool.proofs.Sound.{SoundFit}
 use Rattle.stringpool_promises.proofs.Sounds.{fit-sound, sound-fits}

@@ -1,38 +1,29 @@
 -- A stream that was read is written back identically exactly when nothing in it is written otherwise.
 use mathlib.Core.Path.{_≡_, refl, sym, ap, ap₂, subst, _∙_}
-use Prim.Native.Nat.{ℕ, zero, suc, _+_, _*_, _-_, _%_, _≤_, _<_, min, _^_}
-use native.Mathlib.Nat.{add-zero}
+use Prim.Native.Nat.{ℕ, zero, suc, _+_, _*_, _%_, _≤_, _<_}
 use native.Mathlib.Omega.{arith}
-use mathlib.Core.Bool.{Bool, true, false, not, _&&_, _||_}
-use mathlib.Core.List.{List, [], _∷_, _++_, map, append-assoc, append-nil}
+use mathlib.Core.Bool.{Bool, true, false, _&&_}
+use mathlib.Core.List.{List, [], _∷_, _++_}
 use mathlib.Core.Logic.{_↔_, _⊎_, inl, inr, ⊎-elim}
 use lib.Dec.{ltb, leb, eqb}
-use lib.ListN.{length, take, drop, getD, length-drop, length-append, length-take, take-append-drop, List·getD-eq-default}
-use lib.Seq.{length-take-le, take-all, take-at, drop-at, take-add, drop-drop, getD-take, drop-cons}
-use borrow.Author.Tests.{ltb-true, ltb-false, leb-true, leb-false, lt-ltb, le-ltb, le-leb, lt-leb, eqb-true, eqb-false, eq-eqb, ne-eqb}
-use Rattle.common.specs.Choice.{if_then_else_, _<?_, _≤?_, _=?_}
-use Rattle.common.specs.Lists.{_over_, total, joined}
-use Rattle.common.specs.Answers.{Answer, gives, refused, nowhere, outcome, onGiven}
-use Rattle.common.proofs.Parts.{over-all}
+use lib.ListN.{length, take, drop, length-drop, length-append, take-append-drop}
+use lib.Seq.{length-take-le, take-all, take-at, take-add}
+use borrow.Author.Tests.{leb-true, leb-false, lt-ltb, le-ltb, le-leb, eqb-true, eq-eqb, ne-eqb}
+use Rattle.common.specs.Choice.{if_then_else_}
+use Rattle.common.specs.Lists.{_over_, total}
+use Rattle.common.specs.Answers.{Answer, gives}
 use Rattle.little_endian.specs.Numbers.{bytesOf, numberAt}
 use Rattle.little_endian.specs.Promises.{AreBytes}
-use Rattle.little_endian.proofs.Laws.{length-bytes, read-back, number-past, write-back, number-lt}
-use Rattle.stringpool.specs.Pool.{Entry, entry, Rooms, rooms, cut, entriesOf, entryRoom, sound, texts, onSound}
-use Rattle.stringpool.specs.Load.{Found, one, ends, entryIn, withEntry, onFound, entriesIn, poolEntries, poolFrom, loadEntries, loadAnswer, loadOutcome}
-use Rattle.stringpool.specs.Load as load
-use Rattle.stringpool.specs.Write.{shortOf, wide, entryBytes, markOf, poolBytes, dataBytes, writeAnswer, writeOutcome}
-use Rattle.stringpool.specs.inner.Sound.{smallB, allSmall}
-use Rattle.stringpool.specs.inner.Entries.{Fit, lengthsOf, countsOf}
+use Rattle.little_endian.proofs.Laws.{write-back, number-lt}
+use Rattle.stringpool.specs.Pool.{Rooms, rooms}
+use Rattle.stringpool.specs.Load.{Found, one, ends, onFound, entriesIn, poolFrom, loadOutcome}
+use Rattle.stringpool.specs.Write.{shortOf, wide, entryBytes, markOf, poolBytes, dataBytes}
 use Rattle.stringpool.specs.inner.Write.{entriesBytes, poolStream}
 use Rattle.stringpool.specs.declared.pool.StringPool.{StringPool}
-use Rattle.stringpool.proofs.Entries.{both, lengths-cut, counts-cut, texts-cut}
-use Rattle.stringpool.proofs.Sound.{SoundFit, then-second, false-true}
-use Rattle.stringpool.proofs.Streams.{is-narrow, is-wide, length-narrow, length-wide, length-entry, pool-same, data-same, write-done}
-use Rattle.stringpool_promises.specs.Promises.{State, SoundState, Counts16, Back, ReadsBack, addFound, addIn, stray, shortWide, Plain, Writes, SamePoolStream, SameDataStream}
-use Rattle.stringpool.proofs.Loads.{load-judged}
-use Rattle.stringpool_promises.proofs.Lists.{cut-texts}
-use Rattle.stringpool_promises.proofs.Sounds.{fit-sound, sound-fits}
-use Rattle.stringpool_promises.proofs.Loading.{loads-sound, View, at-end, is-cut, narrow, broad, view, refused-gives, given, gave, outcome-gives, IsLoaded, is-loaded, bytes-drop, good-load, lengths-in, counts-in, loaded-fits}
+use Rattle.stringpool.proofs.Sound.{SoundFit}
+use Rattle.stringpool.proofs.Streams.{is-narrow, is-wide, length-narrow, length-wide, pool-same, data-same}
+use Rattle.stringpool_promises.specs.Promises.{SoundState, addFound, addIn, stray, shortWide, Plain, Writes, SamePoolStream, SameDataStream}
+use Rattle.stringpool_promises.proofs.Loading.{loads-sound, View, at-end, is-cut, narrow, broad, view, refused-gives, given, gave, IsLoaded, is-loaded, bytes-drop, lengths-in, counts-in, loaded-fits}
 use Rattle.stringpool_promises.proofs.Back.{writes}
 
 -- ---- one entry

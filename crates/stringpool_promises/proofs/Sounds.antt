@@ -1,18 +1,14 @@
 -- A state whose parts fit is sound.
-use mathlib.Core.Path.{_≡_, refl, sym, ap, ap₂, subst, _∙_}
-use Prim.Native.Nat.{ℕ, zero, suc, _+_, _*_, _-_, _%_, _≤_, _<_, min, max, _^_}
-use native.Mathlib.Omega.{arith}
-use mathlib.Core.Bool.{Bool, true, false, not, _&&_, _||_}
-use mathlib.Core.List.{List, [], _∷_, _++_, map}
-use lib.Dec.{ltb, leb, eqb}
-use Rattle.common.specs.Choice.{if_then_else_, _<?_, _≤?_, _=?_}
-use Rattle.common.specs.Lists.{_over_, total, joined}
-use Rattle.common.specs.Answers.{Answer, gives, refused, Place, nowhere, outcome, onGiven}
+use mathlib.Core.Path.{_≡_, sym, _∙_}
+use Prim.Native.Nat.{ℕ}
+use mathlib.Core.Bool.{true, false}
+use lib.Dec.{ltb, leb}
+use Rattle.common.specs.Lists.{total}
 use Rattle.stringpool.specs.declared.pool.StringPool.{StringPool}
 use lib.ListN.{length, take}
 use borrow.Author.Tests.{le-ltb, le-leb}
 use Rattle.stringpool.specs.Pool.{Rooms, sound}
-use Rattle.stringpool.specs.inner.Sound.{allSmall, soundB}
+use Rattle.stringpool.specs.inner.Sound.{soundB}
 use Rattle.pool_entries.specs.inner.Sound.{fitsB}
 use Rattle.stringpool.proofs.Sound.{SoundFit, sound-fit}
 use Rattle.stringpool.proofs.House.{sound-same}

@@ -1,14 +1,14 @@
 -- One take or one drop, on a list of entries alone: what it does to the counts of a text, and to the entry at a place.
 use mathlib.Core.Path.{_≡_, refl, sym, ap, ap₂, subst, _∙_}
-use Prim.Native.Nat.{ℕ, zero, suc, _+_, _-_, _≤_, _<_}
+use Prim.Native.Nat.{ℕ, _+_, _-_, _≤_, _<_}
 use native.Mathlib.Nat.{add-zero}
 use native.Mathlib.Omega.{arith}
 use mathlib.Core.Bool.{Bool, true, false, _&&_, _||_}
 use mathlib.Core.List.{List, [], _∷_, _++_}
 use lib.ListN.{length, getD, set, length-append, length-set, List·getD-eq-default}
 use lib.Dec.{leb, ltb, eqb}
-use borrow.Author.Tests.{leb-true, leb-false, eqb-true, eqb-false, ltb-true, ltb-false}
-use Rattle.common.specs.Choice.{if_then_else_, _<?_, _≤?_, _=?_}
+use borrow.Author.Tests.{leb-true, leb-false, eqb-true, ltb-true, ltb-false}
+use Rattle.common.specs.Choice.{if_then_else_}
 use Rattle.stringpool.specs.Pool.{Entry, entry, free}
 use Rattle.stringpool.specs.Take.{sameBytes, equal, increased, takenAt}
 use Rattle.stringpool.specs.Drop.{lessened}
@@ -17,7 +17,6 @@ use Rattle.stringpool.specs.inner.Drop.{none}
 use Rattle.stringpool_promises.proofs.Lists.{sum-set, sum-snoc}
 use Rattle.common.proofs.Lists.{getD-put, getD-snoc}
 use Rattle.stringpool.proofs.Take.{same-eq}
-use Rattle.stringpool.proofs.Sound.{false-true}
 
 -- ---- a take at the place k, which is legal
 

@@ -2,11 +2,11 @@
 use Prim.Native.Nat.{ℕ, zero, suc, _+_, _≤_, _<_}
 use mathlib.Core.Path.{_≡_}
 use mathlib.Core.Logic.{_↔_}
-use mathlib.Core.Bool.{Bool, true, false, not, _&&_, _||_}
+use mathlib.Core.Bool.{Bool, true, false, _&&_, _||_}
 use mathlib.Core.List.{List, [], _∷_, _++_, map}
 use lib.ListN.{length, take, drop, getD}
 use lib.IntN.{ℤ, pos, negsuc}
-use Rattle.common.specs.Choice.{if_then_else_, _<?_, _≤?_, _=?_}
+use Rattle.common.specs.Choice.{if_then_else_, _≤?_, _=?_}
 use Rattle.common.specs.Answers.{Answer, gives, refused}
 use Rattle.common.specs.Lists.{_over_, total}
 use Rattle.stringpool.specs.Pool.{Entry, entry, Rooms, entriesOf, entryRoom, sound, free}

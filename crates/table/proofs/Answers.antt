@@ -1,9 +1,9 @@
 -- What the calls answer, at each of their tests. Assumes nothing.
-use mathlib.Core.Path.{_≡_, refl, sym, _∙_, ap}
-use mathlib.Core.Bool.{Bool, true, false, not, _&&_}
+use mathlib.Core.Path.{_≡_, refl, sym}
+use mathlib.Core.Bool.{Bool, true, false}
 use mathlib.Core.List.{List}
-use Prim.Native.Nat.{ℕ, _+_, _*_, _/_, _<_, _≤_}
-use native.Mathlib.Nat.{div-mul-le-self, zero-mul, mul-comm}
+use Prim.Native.Nat.{ℕ, _*_, _/_, _<_, _≤_}
+use native.Mathlib.Nat.{div-mul-le-self, zero-mul}
 use native.Mathlib.Omega.{arith}
 use lib.Dec.{ltb, eqb}
 use borrow.Author.Tests.{lt-ltb, le-ltb, ltb-false, eq-eqb, ne-eqb}
@@ -16,7 +16,7 @@ use Rattle.column.specs.declared.column.Column.{Column}
 use Rattle.table.specs.declared.layout.Table.{Table}
 use Rattle.table.specs.Layout.{typesOf, soundColumns}
 use Rattle.table.specs.Rows.{rowSize, rowsIn}
-use Rattle.table.specs.Reading.{rowsFound, numRowsAnswer}
+use Rattle.table.specs.Reading.{numRowsAnswer}
 use Rattle.table.specs.Writing.{Cells, columnBytes, tableBytes, writtenRows}
 use Rattle.table.specs.inner.Layout.{Sound}
 use Rattle.table.specs.inner.Columns.{plain}

@@ -1,7 +1,7 @@
 -- One column's cells: by its form, and by its type; and all columns. Assumes nothing.
 use mathlib.Core.Path.{_≡_, refl, sym, _∙_, ap}
 use mathlib.Core.Bool.{Bool}
-use mathlib.Core.List.{List, [], _∷_, _++_}
+use mathlib.Core.List.{List, [], _∷_}
 use Prim.Native.Nat.{ℕ, zero, suc, _+_, _*_, _<_, _≤_}
 use native.Mathlib.Nat.{add-mul, mul-add, mul-zero, add-zero, mul-le-mul-left, not-suc-le-zero, le-of-suc-le-suc}
 use native.Mathlib.Numerals.{add-one}
@@ -10,13 +10,13 @@ use lib.IntN.{ℤ, pos}
 use lib.ListN.{length, getD, take, drop, length-append}
 use lib.Seq.{take-all, getD-take, getD-drop}
 use Rattle.common.specs.Lists.{joined, from}
-use Rattle.common.specs.Answers.{Place, Answer, gives, refused, cell, onGiven, each, refusalOf}
+use Rattle.common.specs.Answers.{Answer, gives, refused, cell, each, refusalOf}
 use Rattle.little_endian.specs.Numbers.{bytesOf, numberAt as numberIn}
 use Rattle.little_endian.proofs.Laws.{length-bytes}
 use Rattle.value.specs.Handed.{cellOf}
 use Rattle.column.specs.declared.column.ColumnType.{ColumnType}
 use Rattle.column.specs.declared.form.CellForm.{CellForm}
-use Rattle.column.specs.Cells.{width, stored, unstored}
+use Rattle.column.specs.Cells.{width, stored}
 use Rattle.column.specs.Forms.{formFor, typeIn, longIn, plainNumber}
 use Rattle.column.proofs.Cells.{form-width, form-stored, form-unstored}
 use Rattle.column.proofs.Numbers.{fine-number}

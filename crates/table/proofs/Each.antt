@@ -6,7 +6,7 @@ use native.Mathlib.Nat.{zero-mul, suc-mul}
 use native.Mathlib.Numerals.{add-one}
 use native.Mathlib.Omega.{arith}
 use lib.ListN.{length, length-append}
-use Rattle.common.specs.Lists.{joined, from}
+use Rattle.common.specs.Lists.{from}
 use Rattle.common.specs.Answers.{Place, Answer, gives, refused, onGiven, each, refusalOf}
 use Rattle.table.specs.inner.Columns.{givenBytes, plain}
 

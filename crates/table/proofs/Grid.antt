@@ -1,6 +1,6 @@
 -- Stores at every step-th place, and a table that is filled column by column. Assumes nothing.
 use mathlib.Core.Path.{_≡_, refl, sym, _∙_, ap}
-use mathlib.Core.Logic.{_⊎_, ⊎-elim}
+use mathlib.Core.Logic.{⊎-elim}
 use mathlib.Core.List.{List, [], _∷_, _++_, map, append-assoc}
 use Prim.Native.Nat.{ℕ, zero, suc, _+_, _-_, _*_, _/_, _%_, _<_, _≤_}
 use native.Mathlib.Nat.{add-mul, sub-zero, suc-mul, zero-mul, mul-zero, add-zero, zero-add, mul-le-mul-right, not-suc-le-zero, le-of-suc-le-suc, div-add-mod', mod-lt, div-lt-iff-lt-mul}

@@ -1,17 +1,17 @@
 -- The columns of a layout, and the laws of its arrays. Assumes nothing.
 use mathlib.Core.Path.{_≡_, refl, sym, _∙_, ap}
 use mathlib.Core.Bool.{Bool, true, false, _&&_}
-use mathlib.Core.List.{List, [], _∷_, _++_, map}
-use Prim.Native.Nat.{ℕ, zero, suc, _+_, _-_, _*_, _<_, _≤_}
-use native.Mathlib.Nat.{mul-le-mul-left, mul-le-mul-right, mul-add, suc-mul, not-suc-le-zero, le-of-suc-le-suc, add-zero, zero-add}
+use mathlib.Core.List.{List, [], _∷_, map}
+use Prim.Native.Nat.{ℕ, zero, suc, _+_, _*_, _<_, _≤_}
+use native.Mathlib.Nat.{mul-le-mul-right, suc-mul, not-suc-le-zero, le-of-suc-le-suc, add-zero, zero-add}
 use native.Mathlib.Numerals.{add-one}
 use native.Mathlib.Omega.{arith}
 use lib.Dec.{ltb}
-use borrow.Author.Tests.{lt-ltb, le-ltb}
-use lib.ListN.{length, getD, take, drop, set, replicate, length-map, List·getD-append, drop-of-length-le, length-append, length-drop}
-use lib.Seq.{getD-take, length-take-le, slice-cons, drop-cons}
+use borrow.Author.Tests.{le-ltb}
+use lib.ListN.{length, getD, take, drop, set, length-map, List·getD-append, drop-of-length-le}
+use lib.Seq.{getD-take, length-take-le, slice-cons}
 use Rattle.common.specs.Choice.{if_then_else_}
-use Rattle.common.specs.Lists.{_over_, overAt, total}
+use Rattle.common.specs.Lists.{_over_, overAt}
 use Rattle.common.specs.Answers.{Place, Answer, gives, refused, onGiven, refusalOf}
 use Rattle.column.specs.declared.column.ColumnType.{ColumnType}
 use Rattle.column.specs.declared.column.ColumnType.the-variants.{Int16, Int32, Str, Binary}
@@ -23,9 +23,9 @@ use Rattle.column.specs.Forms.{formFor, formAnswer}
 use Rattle.column.proofs.Cells.{width-le}
 use Rattle.table.specs.declared.layout.Table.{Table}
 use Rattle.table.specs.Layout.{columnsOf, typesOf, eachAt, soundColumn, soundColumns, onColumns}
-use Rattle.table.specs.Rows.{rowSize, typeAt, cellStart}
+use Rattle.table.specs.Rows.{rowSize, typeAt}
 use Rattle.table.specs.inner.Layout.{Sound, widthsOf, startsFrom, zeros, layoutOf}
-use Rattle.table.proofs.Each.{given-refusal, after-given, after-refused, refused-is}
+use Rattle.table.proofs.Each.{given-refusal, after-given, after-refused}
 
 -- the next multiple, within as many
 pub next-le : (i n k : ℕ) → i < n → i * k + k ≤ n * k

@@ -5,7 +5,7 @@ use Prim.Native.Nat.{ℕ, _-_}
 use native.Mathlib.Omega.{arith}
 use borrow.Author.Tests.{ltb-false, le-ltb}
 use lib.Dec.{ltb}
-use lib.IntN.{ℤ, pos, negsuc, negℤ, natAbs, _+ℤ_}
+use lib.IntN.{ℤ, pos, negsuc, negℤ}
 use Rattle.common.specs.Choice.{if_then_else_, _=?_, _<ℤ?_}
 use Rattle.common.specs.Answers.{Place, gives, refused, refusalOf}
 use Rattle.column.specs.declared.form.CellForm.{CellForm}

@@ -9,7 +9,7 @@ ghost use mathlib.Core.Path.{_≡_};
 ghost use Prim.Native.Nat.{_<_, _≤_};
 ghost use Rattle.common.specs.Answers.{refusalOf};
 ghost use Rattle.column.specs.Forms.{formFor};
-ghost use Rattle.table.specs.Layout.{typesOf, soundColumns, noTable, laidAs, madeAs, bitfieldsOutcome, columnsOutcome};
+ghost use Rattle.table.specs.Layout.{typesOf, soundColumns, noTable, madeAs, bitfieldsOutcome, columnsOutcome};
 ghost use Rattle.table.specs.Rows.{typeAt};
 ghost use Rattle.table.specs.inner.Layout.{verdictAs, Sound, layoutOf};
 

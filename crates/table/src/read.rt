@@ -22,7 +22,7 @@ ghost use Rattle.table.specs.Layout.{typesOf};
 ghost use Rattle.table.specs.Rows.{rowSize, cellAt, rowByRow};
 ghost use Rattle.table.specs.Reading.{numRowsAnswer, readCellAnswer, readRowsOutcome, countedAs, cellReadAs};
 ghost use Rattle.table.specs.inner.Layout.{Sound, layoutOf};
-ghost use Rattle.table.specs.inner.Columns.{formWidth, strided, formCell, Held, rowsFrom};
+ghost use Rattle.table.specs.inner.Columns.{strided, formCell, Held, rowsFrom};
 
 pub enum CellRead {
     Value(ValueRef),

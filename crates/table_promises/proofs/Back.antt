@@ -1,15 +1,15 @@
 -- What was written reads back. Assumes nothing.
 use mathlib.Core.Path.{_≡_, refl, sym, _∙_, ap}
 use mathlib.Core.Bool.{Bool, true, false, not, _&&_}
-use mathlib.Core.List.{List, [], _∷_, _++_, map, append-nil}
+use mathlib.Core.List.{List, [], _∷_, _++_, append-nil}
 use Prim.Native.Nat.{ℕ, zero, suc, _+_, _-_, _*_, _/_, _<_, _≤_}
 use native.Mathlib.Nat.{zero-mul, mul-zero, add-zero, zero-add, mul-div-cancel, mul-le-mul-right}
 use native.Mathlib.Omega.{arith}
 use lib.Dec.{ltb, eqb, lit≤}
 use lib.IntN.{ℤ, pos}
 use lib.ListN.{length, getD, take, drop, length-append, length-drop}
-use lib.Seq.{take-at, take-append-seam, drop-append-seam, drop-drop, take-append-le, drop-append-le, take-take, drop-at}
-use borrow.Author.Tests.{le-ltb, ltb-false, eqb-true, eqb-false, ne-eqb, eq-eqb}
+use lib.Seq.{take-append-seam, drop-drop, take-append-le, drop-append-le, drop-at}
+use borrow.Author.Tests.{le-ltb, ltb-false, eqb-true, eqb-false}
 use Rattle.common.specs.Choice.{if_then_else_}
 use Rattle.common.specs.Lists.{_over_, joined, from}
 use Rattle.common.specs.Answers.{Place, nowhere, Answer, gives, refused, cell, each, refusalOf, onGiven, outcome}
@@ -20,18 +20,17 @@ use Rattle.column.specs.declared.column.ColumnType.{ColumnType}
 use Rattle.column.specs.declared.column.ColumnType.the-variants.{Int16, Int32, Str, Binary}
 use Rattle.column.specs.declared.column.Column.{Column}
 use Rattle.column.specs.Cells.{width, stored, unstored}
-use Rattle.column.proofs.Halves.{lt-or-le}
 use Rattle.table.specs.declared.layout.Table.{Table}
 use Rattle.table.specs.Layout.{typesOf, soundColumns}
-use Rattle.table.specs.Rows.{rowSize, rowsIn, typeAt, cellStart, cellAt, rowByRow}
+use Rattle.table.specs.Rows.{rowSize, rowsIn, typeAt, cellAt, rowByRow}
 use Rattle.table.specs.Reading.{rowsFound, numRowsAnswer, readRowsOutcome}
-use Rattle.table.specs.Writing.{Cells, cellBytes, columnBytes, tableBytes, writtenRows, writeRowsOutcome}
+use Rattle.table.specs.Writing.{Cells, cellBytes, columnBytes, tableBytes, writeRowsOutcome}
 use Rattle.table.specs.inner.Layout.{Sound}
 use Rattle.table.specs.inner.Columns.{givenBytes, plain}
-use Rattle.table.proofs.Each.{given-refusal, fine-first, all-given, bytes-given}
+use Rattle.table.proofs.Each.{given-refusal, fine-first, all-given}
 use Rattle.table.proofs.Layouts.{next-le, types-count, columns-passed, judged-sound, size-le}
-use Rattle.table.proofs.Grid.{length-grid, grid-at, grid-same}
-use Rattle.table.proofs.Column.{part-number, column-within, column-length, columns-length, table-judged, table-given, table-length}
+use Rattle.table.proofs.Grid.{length-grid, grid-same}
+use Rattle.table.proofs.Column.{part-number, column-length, columns-length, table-judged, table-given, table-length}
 use Rattle.table_promises.specs.Promises.{readsAs, handedBack, WriteThenRead}
 use Rattle.table_promises.proofs.Cells.{cell-read-back, stored-fits}
 use Rattle.table_promises.proofs.Agree.{read-is}

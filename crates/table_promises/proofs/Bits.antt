@@ -1,21 +1,20 @@
 -- Written bits read back. Assumes nothing.
-use mathlib.Core.Path.{_≡_, refl, sym, _∙_, ap}
+use mathlib.Core.Path.{_≡_, refl}
 use mathlib.Core.Bool.{Bool, true, false, not, _&&_, _||_}
-use Prim.Native.Nat.{ℕ, _+_, _<_, _≤_}
+use Prim.Native.Nat.{ℕ, _+_, _<_}
 use native.Mathlib.Omega.{arith}
 use lib.Dec.{T, eqb, ltb}
 use borrow.Author.Tests.{eqb-true, ltb-false}
-use lib.IntN.{ℤ, pos}
+use lib.IntN.{pos}
 use Rattle.common.specs.Choice.{if_then_else_}
-use Rattle.common.specs.Answers.{Answer, gives, refused, onGiven}
+use Rattle.common.specs.Answers.{gives, refused, onGiven}
 use Rattle.common.proofs.Below.{allBelow, each, both}
 use Rattle.column.specs.declared.column.ColumnType.{ColumnType}
 use Rattle.column.specs.declared.column.ColumnType.the-variants.{Int16, Int32, Str, Binary}
-use Rattle.column.specs.declared.column.Column.{Column}
 use Rattle.column.specs.declared.column.ColumnBuilder.{ColumnBuilder}
 use Rattle.column.specs.declared.column.ValueRange.{ValueRange}
-use Rattle.column.specs.Bits.{has, without, size, typeFrom, typeBits}
-use Rattle.column.specs.Columns.{bitsColumn, bitfieldAnswer}
+use Rattle.column.specs.Bits.{has, without, size, typeBits}
+use Rattle.column.specs.Columns.{bitsColumn}
 use Rattle.table_promises.specs.Promises.{typeBack, BitsReadBack}
 
 abbrev marked : Bool → Bool → Bool → ℕ

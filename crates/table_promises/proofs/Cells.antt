@@ -1,22 +1,21 @@
 -- A cell written and read, a cell read and written: once over the half of an integer and the width of a reference. Assumes nothing.
 use mathlib.Core.Path.{_≡_, refl, sym, _∙_, ap}
-use mathlib.Core.Bool.{Bool, true, false, not, _&&_, _||_}
-use mathlib.Core.Logic.{⊎-elim}
-use Prim.Native.Nat.{ℕ, zero, suc, _+_, _-_, _<_, _≤_, _^_}
+use mathlib.Core.Bool.{Bool, true, false, _||_}
+use Prim.Native.Nat.{ℕ, zero, suc, _+_, _<_, _≤_, _^_}
 use native.Mathlib.Omega.{arith}
-use lib.Dec.{eqb, ltb, lit≤, lit<}
-use borrow.Author.Tests.{eq-eqb, ne-eqb, eqb-true, eqb-false, lt-ltb, le-ltb, ltb-true, ltb-false}
-use lib.IntN.{ℤ, pos, negsuc, negℤ, natAbs, _-ℤ_}
-use lib.Signed.{mag, ltZ}
+use lib.Dec.{eqb, lit<}
+use borrow.Author.Tests.{ne-eqb, eqb-true, eqb-false, lt-ltb, le-ltb}
+use lib.IntN.{ℤ, pos, negsuc, _-ℤ_}
+use lib.Signed.{mag}
 use Rattle.common.specs.Choice.{if_then_else_}
-use Rattle.common.specs.Answers.{Place, cell, Answer, gives, refused}
+use Rattle.common.specs.Answers.{Place, gives, refused}
 use Rattle.column.specs.declared.column.ColumnType.{ColumnType}
 use Rattle.column.specs.declared.column.ColumnType.the-variants.{Int16, Int32, Str, Binary}
 use Rattle.column.specs.Check.{isBinary}
 use Rattle.column.specs.Cells.{width, integer, stored, unstored, integerCell, referenceCell, referenceNumber}
 use Rattle.column.specs.Signed.{biased, unbiased}
 use Rattle.column.proofs.Halves.{sub-is, mag-unbiased, biased-lt, unbiased-biased, biased-unbiased, biased-zero, integer-given, within-range}
-use Rattle.column.proofs.Numbers.{integer-number, Referred, reference-number}
+use Rattle.column.proofs.Numbers.{integer-number, reference-number}
 use Rattle.column.proofs.Cells.{reference-any, reference-short}
 use Rattle.table_promises.specs.Promises.{same, isSmallest, readsAs, CellReadBack, Int16Kept, FortyThousand}
 

@@ -1,15 +1,15 @@
 -- A list cut into pieces one after the other, and put together again. Assumes nothing.
 use mathlib.Core.Path.{_≡_, refl, sym, _∙_, ap}
 use mathlib.Core.Bool.{Bool}
-use mathlib.Core.List.{List, [], _∷_, _++_, map, append-assoc}
+use mathlib.Core.List.{List, _++_, map, append-assoc}
 use Prim.Native.Nat.{ℕ, zero, suc, _+_, _-_, _*_, _<_, _≤_}
 use native.Mathlib.Nat.{zero-mul, suc-mul, add-zero, zero-add, not-suc-le-zero, le-of-suc-le-suc, mul-add, mul-le-mul-left}
 use native.Mathlib.Numerals.{add-one}
 use native.Mathlib.Omega.{arith}
-use lib.ListN.{length, take, drop, length-append}
-use lib.Seq.{take-add, drop-drop, take-at, drop-at, drop-append-add, take-append-seam}
+use lib.ListN.{length, take, drop}
+use lib.Seq.{take-add, drop-drop, take-at, drop-append-add}
 use Rattle.common.specs.Lists.{joined, from}
-use Rattle.common.specs.Answers.{Answer, gives, refused, each, refusalOf}
+use Rattle.common.specs.Answers.{Answer, gives, each, refusalOf}
 use Rattle.column.specs.declared.column.ColumnType.{ColumnType}
 use Rattle.column.specs.Cells.{width}
 use Rattle.table.specs.Rows.{rowSize, typeAt}

@@ -1,27 +1,25 @@
 -- What was read writes back. Assumes nothing.
-use mathlib.Core.Path.{_≡_, refl, sym, _∙_, ap}
+use mathlib.Core.Path.{_≡_, sym, _∙_, ap}
 use mathlib.Core.Bool.{Bool, false}
-use mathlib.Core.List.{List, map}
-use Prim.Native.Nat.{ℕ, zero, suc, _+_, _*_, _<_, _≤_}
-use native.Mathlib.Nat.{zero-mul, mul-zero, add-zero, mul-add, mul-le-mul-left}
+use mathlib.Core.List.{List}
+use Prim.Native.Nat.{ℕ, _+_, _*_, _<_, _≤_}
+use native.Mathlib.Nat.{zero-mul, mul-zero, add-zero}
 use native.Mathlib.Omega.{arith}
 use lib.IntN.{ℤ, pos}
-use lib.ListN.{length, getD, take, drop, length-drop}
+use lib.ListN.{length, getD, take, drop}
 use lib.Seq.{length-take-le, take-all}
 use borrow.Author.Tests.{le-ltb, eq-eqb}
-use Rattle.common.specs.Lists.{_over_, joined, from}
-use Rattle.common.specs.Answers.{gives, cell, each, refusalOf}
+use Rattle.common.specs.Answers.{gives, cell}
 use Rattle.common.proofs.Parts.{over-all}
-use Rattle.little_endian.specs.Numbers.{bytesOf, numberAt}
+use Rattle.little_endian.specs.Numbers.{numberAt}
 use Rattle.little_endian.specs.Promises.{AreBytes}
 use Rattle.little_endian.proofs.Laws.{number-lt, write-back}
 use Rattle.column.specs.declared.column.ColumnType.{ColumnType}
 use Rattle.column.specs.Check.{isBinary}
-use Rattle.column.specs.Cells.{width, stored, unstored}
+use Rattle.column.specs.Cells.{width}
 use Rattle.table.specs.declared.layout.Table.{Table}
-use Rattle.table.specs.Layout.{typesOf, soundColumns}
-use Rattle.table.specs.Rows.{rowSize, typeAt, cellStart, cellAt, rowByRow}
-use Rattle.table.specs.Reading.{numRowsAnswer, readRowsOutcome}
+use Rattle.table.specs.Layout.{typesOf}
+use Rattle.table.specs.Rows.{rowSize, typeAt, cellAt, rowByRow}
 use Rattle.table.specs.Writing.{Cells, cellBytes, columnBytes, tableBytes, writtenRows}
 use Rattle.table.proofs.Layouts.{next-le, types-count, columns-passed}
 use Rattle.table.proofs.Grid.{length-grid, grid-at}

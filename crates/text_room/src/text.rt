@@ -1,7 +1,7 @@
 // How one text is put in the place of another, and bytes are copied into a room.
 ghost use mathlib.Core.Path.{_≡_};
 ghost use Prim.Native.Nat.{_+_, _-_, _≤_, _<_};
-ghost use lib.ListN.{length, take, drop, replicate};
+ghost use lib.ListN.{length, drop, replicate};
 ghost use lib.Seq.{paste};
 ghost use Rattle.text_room.specs.Texts.{splice, fits, replaced, copiedIn};
 

@@ -1,6 +1,6 @@
 -- The steps of reading and writing a column's bits.
-use Prim.Native.Nat.{ℕ, _≤_}
-use mathlib.Core.Bool.{Bool, true, false}
+use Prim.Native.Nat.{_≤_}
+use mathlib.Core.Bool.{Bool, false}
 use Rattle.common.specs.Choice.{_<?_}
 use Rattle.common.specs.Sizes.{maxString}
 use Rattle.common.specs.Answers.{Answer, gives, refused, column}

@@ -1,7 +1,7 @@
 use Prim.Native.Nat.{_+_, _-_, _≤_, _<_, _^_}
 use native.Mathlib.Nat.{sub-self, sub-zero, add-zero}
 use native.Mathlib.Omega.{arith}
-use mathlib.Core.Path.{_≡_, ap, _∙_}
+use mathlib.Core.Path.{_≡_}
 use denote.Ref.{now}
 use Rattle.little_endian.specs.Numbers.{numberAt}
 use Rattle.little_endian.specs.Promises.{AreBytes}

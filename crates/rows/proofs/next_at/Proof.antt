@@ -12,7 +12,7 @@ use borrow.Author.Tests.{lt-ltb}
 use native.Mathlib.Omega.{arith}
 use native.Mathlib.Nat.{mul-zero, mul-le-mul-right, mod-lt}
 use Prim.Native.Nat.{ℕ, _<_, _*_, _≤_, _/_, _%_}
-use mathlib.Core.Path.{_≡_, refl, sym, ap, _∙_}
+use mathlib.Core.Path.{_≡_, sym, _∙_}
 use borrow.Author.Needs.{needs}
 use Rattle.rows.proofs.next_at.Statement.{statement}
 use Rattle.rows.proofs.next_at.Tie as tie

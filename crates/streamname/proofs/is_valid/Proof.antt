@@ -1,5 +1,5 @@
 use Rattle.common.proofs.Outcomes.{not-true, true-not}
-use mathlib.Core.Path.{_≡_, sym, _∙_}
+use mathlib.Core.Path.{sym, _∙_}
 use borrow.Author.Tests.{lt-ltb, le-ltb, eq-eqb, ne-eqb, le-leb, lt-leb}
 use borrow.Author.Needs.{needs}
 use Rattle.streamname.proofs.is_valid.Statement.{statement}

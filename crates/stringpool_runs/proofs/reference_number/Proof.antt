@@ -1,5 +1,4 @@
 use mathlib.Core.Path.{_≡_, sym, ap, _∙_}
-use Prim.Native.Nat.{ℕ, _≤_}
 use native.Mathlib.Omega.{arith}
 use lib.IntN.{ℤ, pos}
 use lib.Signed.{ltZ}
@@ -10,8 +9,6 @@ use Rattle.stringpool.proofs.Signed.{Within, within}
 use borrow.Author.Needs.{needs}
 use Rattle.stringpool_runs.proofs.reference_number.Statement.{statement}
 use Rattle.stringpool_runs.proofs.reference_number.Tie as tie
-use Rattle.stringpool_runs.proofs.reference_number.Reads as reads
-use Rattle.stringpool_runs.proofs.reference_number.Lts as lts
 
 -- src/main.rt:145:9
 returns : tie.Need-returns

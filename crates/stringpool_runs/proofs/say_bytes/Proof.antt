@@ -4,9 +4,6 @@ use mathlib.Core.Path.{_≡_}
 use lib.ListN.{length}
 use Rattle.stringpool_runs.proofs.say_bytes.Statement.{statement}
 use Rattle.stringpool_runs.proofs.say_bytes.Tie as tie
-use Rattle.stringpool_runs.proofs.say_bytes.Reads as reads
-use Rattle.stringpool_runs.proofs.say_bytes.Lts as lts
-use Rattle.stringpool_runs.proofs.say_byte.Reads as say-byte-reads
 
 abbrev Inv-loop : tie.InvT-loop
 Inv-loop bytes i₀ i-end i = i-end ≡ length bytes

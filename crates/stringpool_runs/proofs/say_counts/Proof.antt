@@ -4,9 +4,6 @@ use mathlib.Core.Path.{_≡_}
 use lib.ListN.{length}
 use Rattle.stringpool_runs.proofs.say_counts.Statement.{statement}
 use Rattle.stringpool_runs.proofs.say_counts.Tie as tie
-use Rattle.stringpool_runs.proofs.say_counts.Reads as reads
-use Rattle.stringpool_runs.proofs.say_counts.Lts as lts
-use Rattle.stringpool_runs.proofs.say_count.Reads as say-count-reads
 
 abbrev Inv-loop : tie.InvT-loop
 Inv-loop counts i₀ i-end i = i-end ≡ length counts

@@ -4,9 +4,6 @@ use mathlib.Core.Path.{_≡_}
 use lib.ListN.{length}
 use Rattle.stringpool_runs.proofs.say_lengths.Statement.{statement}
 use Rattle.stringpool_runs.proofs.say_lengths.Tie as tie
-use Rattle.stringpool_runs.proofs.say_lengths.Reads as reads
-use Rattle.stringpool_runs.proofs.say_lengths.Lts as lts
-use Rattle.stringpool_runs.proofs.say_length.Reads as say-length-reads
 
 abbrev Inv-loop : tie.InvT-loop
 Inv-loop lengths i₀ i-end i = i-end ≡ length lengths

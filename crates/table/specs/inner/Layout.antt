@@ -1,9 +1,9 @@
 -- The arrays of a layout, and what its readers and writers are handed.
-use Prim.Native.Nat.{ℕ, zero, suc, _+_, _*_, _≤_, _<_}
+use Prim.Native.Nat.{ℕ, _+_, _≤_}
 use mathlib.Core.Path.{_≡_}
 use mathlib.Core.Bool.{Bool}
 use mathlib.Core.List.{List, [], _∷_, map}
-use lib.ListN.{length, take, replicate}
+use lib.ListN.{replicate}
 use Rattle.common.specs.Lists.{_over_}
 use Rattle.common.specs.Answers.{Answer, gives, refusalOf}
 use Rattle.common.specs.Refusals.{refusedBy}

@@ -1,5 +1,4 @@
 -- `bits::type_bits` meets its contract: the maximum fills the low byte. Assumes nothing.
-use Rattle.column.specs.inner.Bits.{MaximumFits}
 use lib.Bits.{or-shifted-r}
 use native.Mathlib.Omega.{arith}
 use borrow.Author.Needs.{needs}

@@ -9,8 +9,8 @@ use lib.Dec.{eqb}
 use lib.Bits.{bitAnd}
 use borrow.Author.Tests.{eq-eqb, ne-eqb}
 use native.Mathlib.Omega.{arith}
-use Prim.Native.Nat.{ℕ, _<_, _^_, _%_}
-use mathlib.Core.Path.{_≡_, ap, _∙_, sym}
+use Prim.Native.Nat.{ℕ, _%_}
+use mathlib.Core.Path.{_≡_, _∙_, sym}
 use Rattle.column.proofs.bits.type_of.Statement.{statement}
 use Rattle.column.proofs.bits.type_of.Tie as tie
 

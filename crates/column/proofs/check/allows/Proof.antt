@@ -2,7 +2,6 @@
 use Rattle.column.proofs.Cases.{and-false, and-true}
 use mir.Facts.{toZ-ofZ}
 use mir.Syntax.{w32}
-use mathlib.Core.Bool.{Bool, true, false, not, _&&_}
 use mathlib.Core.Path.{sym, _∙_}
 use borrow.Author.Needs.{needs}
 use Rattle.column.proofs.check.allows.Statement.{statement}

@@ -1,9 +1,8 @@
 -- `form::integer_stored` meets its contract. Assumes nothing.
-use Rattle.column.proofs.Halves.{bias-is, too-low, too-high, in-range, biased-lt, integer-refused, integer-given}
+use Rattle.column.proofs.Halves.{bias-is, too-low, too-high, in-range, integer-refused, integer-given}
 use Rattle.column.proofs.Cases.{not-integer}
 use Rattle.common.specs.Answers.{cell, gives}
-use native.Mathlib.Omega.{arith}
-use mathlib.Core.Path.{_≡_, ap, sym, _∙_}
+use mathlib.Core.Path.{ap, sym, _∙_}
 use borrow.Author.Needs.{needs}
 use Rattle.column.proofs.form.integer_stored.Statement.{statement}
 use Rattle.column.proofs.form.integer_stored.Tie as tie

@@ -1,7 +1,6 @@
 -- `form::integer_value` meets its contract. Assumes nothing.
 use Rattle.column.proofs.Halves.{unbiased-fits, sub-is}
 use Rattle.column.specs.Signed.{unbiased}
-use Prim.Native.Nat.{ℕ}
 use lib.IntN.{ℤ, pos, _-ℤ_}
 use borrow.Author.Tests.{eq-eqb, ne-eqb}
 use mir.Facts.{toZ-ofZ}

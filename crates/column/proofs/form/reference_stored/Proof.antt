@@ -1,11 +1,9 @@
-use Rattle.column.proofs.Cells.{Good, good, good-is, good-bits, reference-refused, reference-any, reference-long, reference-short}
-use native.Mathlib.Omega.{arith}
+use Rattle.column.proofs.Cells.{good, good-bits, reference-refused, reference-any, reference-long, reference-short}
 use mir.Facts.{toZ-ofZ}
 use mir.Syntax.{w32}
-use mathlib.Core.Path.{_≡_, sym, ap, _∙_}
 -- `form::reference_stored` meets its contract. Assumes nothing.
 use Rattle.column.proofs.Cases.{not-reference}
-use Rattle.common.specs.Answers.{cell, gives}
+use Rattle.common.specs.Answers.{cell}
 use borrow.Author.Needs.{needs}
 use Rattle.column.proofs.form.reference_stored.Statement.{statement}
 use Rattle.column.proofs.form.reference_stored.Tie as tie

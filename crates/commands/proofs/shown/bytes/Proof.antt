@@ -1,7 +1,6 @@
 use borrow.Author.Needs.{needs}
 use mathlib.Core.Path.{_≡_}
-use Prim.Native.Nat.{_≤_, _-_}
-use native.Mathlib.Omega.{arith}
+use Prim.Native.Nat.{_-_}
 use lib.ListN.{length}
 use Rattle.commands.proofs.shown.bytes.Statement.{statement}
 use Rattle.commands.proofs.shown.bytes.Tie as tie

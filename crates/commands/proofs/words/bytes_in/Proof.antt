@@ -3,8 +3,8 @@ use native.Mathlib.Omega.{arith}
 use Rattle.commands.proofs.Laws.{lesser-left, lesser-right, inside, listed-length, listed-next, listed-end, stored}
 use Rattle.commands.specs.Words.{pairAt, pairsIn, lesser, listed}
 use Rattle.common.proofs.Writing.{Writing, begin, kept, room-front, step-front, done-front}
-use mathlib.Core.Path.{_≡_, sym, ap, _∙_}
-use Prim.Native.Nat.{ℕ, _+_, _*_, _-_, _≤_, _<_}
+use mathlib.Core.Path.{_≡_, ap, _∙_}
+use Prim.Native.Nat.{_-_, _≤_, _<_}
 use lib.ListN.{length}
 use borrow.Author.Needs.{needs}
 use Rattle.commands.proofs.words.bytes_in.Statement.{statement}

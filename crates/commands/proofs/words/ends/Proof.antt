@@ -1,4 +1,4 @@
-use borrow.Author.Tests.{lt-ltb, le-ltb, eq-eqb, ne-eqb, le-leb, lt-leb}
+use borrow.Author.Tests.{eq-eqb, ne-eqb}
 use Rattle.commands.proofs.words.ends.Statement.{statement}
 use Rattle.commands.proofs.words.ends.Tie as tie
 

@@ -1,4 +1,4 @@
-use borrow.Author.Tests.{lt-ltb, le-ltb, eq-eqb, ne-eqb, le-leb, lt-leb}
+use borrow.Author.Tests.{lt-ltb, le-ltb}
 use Rattle.commands.proofs.words.fewer.Statement.{statement}
 use Rattle.commands.proofs.words.fewer.Tie as tie
 

@@ -1,4 +1,4 @@
-use borrow.Author.Tests.{lt-ltb, le-ltb, eq-eqb, ne-eqb, le-leb, lt-leb}
+use borrow.Author.Tests.{le-leb, lt-leb}
 use Rattle.commands.proofs.words.is_digit.Statement.{statement}
 use Rattle.commands.proofs.words.is_digit.Tie as tie
 

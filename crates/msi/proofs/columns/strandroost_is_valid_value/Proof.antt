@@ -8,7 +8,6 @@ use denote.Ref.{now}
 use mir.ValLaws.{toZ-ofZ}
 use mir.Val.{SFits, toZ, ofZ}
 use mir.Syntax.{w32}
-use lib.IntN.{ℤ}
 use mathlib.Core.Path.{_≡_, ap, ap₂, _∙_}
 use borrow.Author.Needs.{needs}
 use Rattle.msi.proofs.columns.strandroost_is_valid_value.Statement.{statement}

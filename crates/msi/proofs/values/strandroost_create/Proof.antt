@@ -1,4 +1,4 @@
-use mathlib.Core.Path.{_≡_, sym, ap, ap₂, _∙_}
+use mathlib.Core.Path.{_≡_, ap, ap₂, _∙_}
 use lib.IntN.{ℤ}
 use mir.Syntax.{w32}
 use mir.Val.{SFits, toZ, ofZ}
@@ -6,7 +6,6 @@ use mir.ValLaws.{toZ-ofZ}
 use denote.Ref.{now}
 use Rattle.stringpool.specs.Pool.{rooms}
 use Rattle.stringpool.specs.declared.pool.StringPool.{StringPool}
-use Rattle.msi_forms.specs.Pools.{stateIn}
 use Rattle.value.specs.declared.pooled.Value.{Value}
 use Rattle.value.specs.Pooled.{valueKind, valueNumber, createOutcome}
 use Rattle.msi_forms.specs.Values.{plainIn, createdIn}

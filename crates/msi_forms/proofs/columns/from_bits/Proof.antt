@@ -1,8 +1,7 @@
 use mir.ValLaws.{toZ-ofZ}
 use mir.Val.{SFits, toZ, ofZ}
 use mir.Syntax.{w32}
-use lib.IntN.{ℤ}
-use mathlib.Core.Path.{_≡_, ap, ap₂, _∙_}
+use mathlib.Core.Path.{_≡_}
 use borrow.Author.Needs.{needs}
 use Rattle.msi_forms.proofs.columns.from_bits.Statement.{statement}
 use Rattle.msi_forms.proofs.columns.from_bits.Tie as tie

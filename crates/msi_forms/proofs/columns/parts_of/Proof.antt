@@ -2,7 +2,6 @@ use Rattle.msi_forms.specs.declared.columns.RangeParts.{RangeParts}
 use mir.ValLaws.{toZ-ofZ}
 use mir.Val.{SFits, toZ, ofZ}
 use mir.Syntax.{w32}
-use lib.IntN.{ℤ}
 use mathlib.Core.Path.{_≡_, ap, _∙_}
 use borrow.Author.Needs.{needs}
 use Rattle.msi_forms.proofs.columns.parts_of.Statement.{statement}

@@ -2,7 +2,7 @@ use mir.ValLaws.{toZ-ofZ}
 use mir.Val.{SFits, toZ, ofZ}
 use mir.Syntax.{w32}
 use lib.IntN.{ℤ}
-use mathlib.Core.Path.{_≡_, ap, _∙_}
+use mathlib.Core.Path.{_≡_}
 use borrow.Author.Needs.{needs}
 use Rattle.msi_forms.proofs.pools.from_made.Statement.{statement}
 use Rattle.msi_forms.proofs.pools.from_made.Tie as tie

@@ -1,9 +1,9 @@
 use Rattle.column.specs.Columns.{building, finished}
 use Rattle.column.specs.declared.column.ColumnType.the-variants.{Int16}
-use mathlib.Core.Path.{_≡_, refl, sym, ap, _∙_}
-use Prim.Native.Nat.{ℕ, _+_, _-_, _≤_, _<_}
+use mathlib.Core.Path.{_≡_, refl, sym}
+use Prim.Native.Nat.{_-_, _≤_}
 use native.Mathlib.Omega.{arith}
-use lib.ListN.{length, getD, length-map}
+use lib.ListN.{length, length-map}
 use Rattle.msi_forms.specs.Columns.{partsOf}
 use Rattle.msi_forms.proofs.Mapped.{Mapped, mapped-begin, mapped-step, mapped-done}
 use Rattle.msi_forms.proofs.tables.table_out.Statement.{statement}

@@ -3,8 +3,7 @@ use borrow.Author.Tests.{eq-eqb, ne-eqb}
 use mir.ValLaws.{toZ-ofZ}
 use mir.Val.{SFits, toZ, ofZ}
 use mir.Syntax.{w32}
-use lib.IntN.{ℤ}
-use mathlib.Core.Path.{_≡_, ap, ap₂, _∙_}
+use mathlib.Core.Path.{_≡_}
 use Rattle.msi_forms.proofs.values.value_in.Statement.{statement}
 use Rattle.msi_forms.proofs.values.value_in.Tie as tie
 

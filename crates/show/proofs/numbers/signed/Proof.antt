@@ -4,11 +4,9 @@ use Rattle.column.proofs.Cells.{from-zero}
 use Rattle.column.proofs.Halves.{widens, widened}
 use Prim.Native.Nat.{suc}
 use lib.Signed.{mag}
-use lib.IntN.{pos}
 use mir.Facts.{toZ-ofZ, toZ-pos}
 use mir.Syntax.{w32, w64}
 use native.Mathlib.Omega.{arith}
-use mathlib.Core.Path.{_≡_}
 use borrow.Author.Needs.{needs}
 use Rattle.show.proofs.numbers.signed.Statement.{statement}
 use Rattle.show.proofs.numbers.signed.Tie as tie

@@ -4,7 +4,6 @@ use mathlib.Core.Path.{refl}
 use denote.Ref.{now}
 use lib.ListN.{length, length-set}
 use Rattle.common.proofs.Parts.{set-over, set-over-two}
-use Rattle.streamname.specs.inner.Packing.{unitsOf}
 use borrow.Author.Needs.{needs}
 use Rattle.streamname.proofs.decoding.put_units.Statement.{statement}
 use Rattle.streamname.proofs.decoding.put_units.Tie as tie

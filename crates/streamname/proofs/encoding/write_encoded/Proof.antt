@@ -1,6 +1,5 @@
 use Prim.Native.Nat.{_-_, _≤_}
 use native.Mathlib.Omega.{arith}
-use mathlib.Core.Path.{_≡_}
 use lib.ListN.{length, drop}
 use Rattle.streamname.specs.Names.{encoded}
 use Rattle.streamname.proofs.EncodeLaws.{encoded-end}

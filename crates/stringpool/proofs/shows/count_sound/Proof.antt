@@ -1,5 +1,4 @@
 use mathlib.Core.Path.{sym, ap, _∙_}
-use Prim.Native.Nat.{_-_}
 use mathlib.Core.List.{[]}
 use Rattle.common.specs.Answers.{gives}
 use Rattle.stringpool.specs.inner.Show.{countAt}

@@ -1,5 +1,4 @@
 use mathlib.Core.Path.{sym, _∙_}
-use Prim.Native.Nat.{_-_}
 use Rattle.stringpool.proofs.House.{refused-outside, refused-none}
 use borrow.Author.Needs.{needs}
 use Rattle.stringpool.proofs.shows.in_range.Statement.{statement}

@@ -1,4 +1,3 @@
-use Prim.Native.Nat.{_-_}
 use borrow.Author.Needs.{needs}
 use Rattle.stringpool.proofs.takes.short_full.Statement.{statement}
 use Rattle.stringpool.proofs.takes.short_full.Tie as tie

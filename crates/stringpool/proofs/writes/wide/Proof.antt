@@ -1,5 +1,4 @@
 use mathlib.Core.Path.{sym, ap, _∙_}
-use Prim.Native.Nat.{_-_}
 use borrow.Author.Tests.{ne-eqb, eq-eqb}
 use mathlib.Core.Bool.{Bool, _&&_}
 use lib.Dec.{ltb}

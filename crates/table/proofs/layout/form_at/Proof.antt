@@ -7,7 +7,7 @@ use Rattle.common.specs.Answers.{gives}
 use lib.ListN.{length, getD, length-map}
 use native.Mathlib.Omega.{arith}
 use Prim.Native.Nat.{ℕ}
-use mathlib.Core.Path.{_≡_, sym, ap, _∙_}
+use mathlib.Core.Path.{_≡_, _∙_}
 use borrow.Author.Needs.{needs}
 use Rattle.table.proofs.layout.form_at.Statement.{statement}
 use Rattle.table.proofs.layout.form_at.Tie as tie

@@ -1,20 +1,18 @@
 -- `layout::layout_of` meets its contract: what is still to be stored, stored over what there is, stays the same in each turn. Assumes nothing.
-use Rattle.table.proofs.Layouts.{noColumn, columns-next, columns-done, type-at, over-set}
+use Rattle.table.proofs.Layouts.{columns-next, columns-done, type-at, over-set}
 use Rattle.table.specs.inner.Layout.{widthsOf, startsFrom, zeros}
 use Rattle.table.specs.declared.layout.Table.{Table}
 use Rattle.table.specs.Rows.{rowSize, typeAt}
 use Rattle.table.specs.Layout.{columnsOf, typesOf}
 use Rattle.column.proofs.Cells.{width-le, form-width}
-use Rattle.column.specs.Forms.{typeIn, longIn}
 use Rattle.column.specs.Cells.{width}
 use Rattle.column.specs.declared.column.ColumnType.{ColumnType}
 use Rattle.column.specs.declared.column.Column.{Column}
 use Rattle.common.proofs.Parts.{over-none}
 use Rattle.common.specs.Lists.{overAt, _over_}
-use lib.ListN.{length, getD, drop, length-map, length-set, replicate}
+use lib.ListN.{length, drop, length-map, length-set}
 use native.Mathlib.Omega.{arith}
-use native.Mathlib.Numerals.{add-one}
-use Prim.Native.Nat.{ℕ, _+_, _-_, _*_, _≤_, _<_}
+use Prim.Native.Nat.{ℕ, _+_, _-_, _*_, _≤_}
 use mathlib.Core.List.{List, [], _∷_, map}
 use mathlib.Core.Path.{_≡_, refl, sym, ap, _∙_}
 use Rattle.table.proofs.layout.layout_of.Statement.{statement}

@@ -1,6 +1,6 @@
 -- `read::cell_in` meets its contract. Assumes nothing.
 use Rattle.table.proofs.Layouts.{types-count, start-at, width-at, column-in, size-le}
-use Rattle.table.specs.Rows.{rowSize, typeAt, cellAt}
+use Rattle.table.specs.Rows.{rowSize, typeAt}
 use Rattle.table.specs.Layout.{typesOf}
 use Rattle.table.specs.declared.layout.Layout.{Layout}
 use Rattle.column.proofs.Cells.{width-le, form-width, form-unstored}
@@ -8,8 +8,8 @@ use Rattle.column.specs.Cells.{width}
 use lib.ListN.{length, length-map, getD, take}
 use native.Mathlib.Omega.{arith}
 use native.Mathlib.Nat.{mul-le-mul-right}
-use Prim.Native.Nat.{ℕ, _+_, _*_, _≤_}
-use mathlib.Core.Path.{_≡_, refl, sym, ap, _∙_}
+use Prim.Native.Nat.{_*_, _≤_}
+use mathlib.Core.Path.{_≡_, ap, _∙_}
 use borrow.Author.Needs.{needs}
 use Rattle.table.proofs.read.cell_in.Statement.{statement}
 use Rattle.table.proofs.read.cell_in.Tie as tie

@@ -5,11 +5,11 @@ use Rattle.table.specs.Layout.{typesOf}
 use Rattle.common.proofs.Writing.{kept}
 use lib.ListN.{length, take, drop, length-drop}
 use lib.Seq.{length-take-le}
-use lib.IntN.{ℤ, pos}
+use lib.IntN.{pos}
 use native.Mathlib.Omega.{arith}
 use native.Mathlib.Nat.{mul-le-mul-right}
-use Prim.Native.Nat.{ℕ, _+_, _-_, _*_, _≤_, _<_}
-use mathlib.Core.Path.{_≡_, refl, sym, ap, _∙_}
+use Prim.Native.Nat.{_+_, _-_, _*_, _≤_}
+use mathlib.Core.Path.{_≡_}
 use Rattle.table.proofs.read.read_bands.Statement.{statement}
 use Rattle.table.proofs.read.read_bands.Tie as tie
 

@@ -3,18 +3,16 @@ use Rattle.table.proofs.Column.{cell-part}
 use Rattle.table.proofs.Layouts.{next-le, next-is}
 use Rattle.table.proofs.Grid.{stride-turn, stride-done}
 use Rattle.table.specs.inner.Columns.{formWidth, formCell, strided}
-use Rattle.column.specs.Forms.{typeIn}
-use Rattle.column.specs.Cells.{unstored}
-use Rattle.value.specs.Kinds.{kindOf, numberOf, cellAs}
+use Rattle.value.specs.Kinds.{cellAs}
 use Rattle.common.specs.Lists.{from}
 use mir.Facts.{toZ-ofZ}
 use mir.Syntax.{w32}
-use lib.ListN.{length, length-set, take, drop}
-use lib.IntN.{ℤ, pos}
+use lib.ListN.{length, length-set}
+use lib.IntN.{ℤ}
 use native.Mathlib.Omega.{arith}
 use native.Mathlib.Nat.{sub-zero, zero-mul}
 use Prim.Native.Nat.{ℕ, _+_, _-_, _*_, _≤_, _<_, _^_}
-use mathlib.Core.List.{List, map}
+use mathlib.Core.List.{map}
 use mathlib.Core.Path.{_≡_, refl, sym, ap, _∙_}
 use borrow.Author.Needs.{needs}
 use Rattle.table.proofs.read.read_cells.Statement.{statement}

@@ -13,8 +13,8 @@ use lib.ListN.{length, length-map, getD, take}
 use lib.IntN.{ℤ, pos}
 use native.Mathlib.Omega.{arith}
 use native.Mathlib.Nat.{add-mul, add-zero, mul-le-mul-right}
-use Prim.Native.Nat.{ℕ, _+_, _-_, _*_, _≤_, _<_}
-use mathlib.Core.Path.{_≡_, refl, sym, ap, _∙_}
+use Prim.Native.Nat.{ℕ, _+_, _-_, _*_, _≤_}
+use mathlib.Core.Path.{_≡_, ap, _∙_}
 use Rattle.table.proofs.read.read_columns.Statement.{statement}
 use Rattle.table.proofs.read.read_columns.Tie as tie
 

@@ -12,11 +12,11 @@ use Rattle.common.specs.Lists.{from}
 use mir.Facts.{toZ-ofZ}
 use mir.Syntax.{w32}
 use lib.ListN.{length, getD}
-use lib.IntN.{ℤ, pos}
+use lib.IntN.{pos}
 use native.Mathlib.Omega.{arith}
 use native.Mathlib.Nat.{sub-zero, zero-mul}
 use Prim.Native.Nat.{ℕ, _+_, _-_, _*_, _≤_, _<_, _^_}
-use mathlib.Core.Path.{_≡_, refl, sym, ap, _∙_}
+use mathlib.Core.Path.{_≡_, sym, ap, _∙_}
 use borrow.Author.Needs.{needs}
 use Rattle.table.proofs.write.judge_column.Statement.{statement}
 use Rattle.table.proofs.write.judge_column.Tie as tie

@@ -4,11 +4,10 @@ use Rattle.table.proofs.Layouts.{next-le, next-is}
 use Rattle.table.proofs.Each.{from-next, fine-first, plain-turn, plain-end}
 use Rattle.table.specs.inner.Columns.{formWidth, formBytes, givenBytes, plain}
 use Rattle.table.specs.Writing.{Cells}
-use Rattle.table.specs.declared.layout.Stride.{Stride}
 use Rattle.column.specs.Forms.{plainNumber}
 use Rattle.value.specs.Handed.{cellOf}
 use Rattle.little_endian.proofs.Laws.{length-bytes, written}
-use Rattle.little_endian.specs.Numbers.{bytesOf, writeOutcome}
+use Rattle.little_endian.specs.Numbers.{bytesOf}
 use Rattle.common.proofs.Parts.{over-next, over-none, exact-over}
 use Rattle.common.specs.Answers.{gives, refusalOf, each}
 use Rattle.common.specs.Lists.{_over_, overAt, from}
@@ -16,7 +15,7 @@ use mir.Facts.{toZ-ofZ}
 use mir.Syntax.{w32}
 use lib.Seq.{length-take-le}
 use lib.ListN.{length, getD, take, drop, length-drop}
-use lib.IntN.{ℤ, pos}
+use lib.IntN.{pos}
 use borrow.Rule.Slice.PartMut.{putMid, same-len-mid}
 use native.Mathlib.Omega.{arith}
 use native.Mathlib.Nat.{sub-zero, zero-mul}

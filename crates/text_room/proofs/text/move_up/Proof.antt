@@ -1,4 +1,3 @@
-use Prim.Native.Nat.{_-_}
 use native.Mathlib.Omega.{arith}
 use Rattle.common.proofs.Run.{RunDown, down-start, down-turn, down-end}
 use Rattle.text_room.proofs.text.move_up.Statement.{statement}

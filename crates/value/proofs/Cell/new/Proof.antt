@@ -1,5 +1,5 @@
 -- `Cell::new` meets its contract. Assumes nothing.
-use borrow.Author.Tests.{eq-eqb, ne-eqb}
+use borrow.Author.Tests.{ne-eqb}
 use mir.Syntax.{w32}
 use mir.Facts.{toZ-ofZ}
 use Rattle.value.proofs.Cell.new.Statement.{statement}

@@ -1,10 +1,9 @@
-use mathlib.Core.Bool.{_||_}
 -- `ColumnBuilder::with_bitfield` meets its contract: the type is that of the bits, and each mark is a bit. Assumes nothing.
 use Rattle.column.proofs.Masks.{mark-is}
 use mir.Facts.{toZ-ofZ}
 use mir.Val.{ofZ}
 use mir.Syntax.{w32}
-use mathlib.Core.Path.{_∙_, sym}
+use mathlib.Core.Path.{sym}
 use borrow.Author.Needs.{needs}
 use Rattle.column.proofs.column.ColumnBuilder.with_bitfield.Statement.{statement}
 use Rattle.column.proofs.column.ColumnBuilder.with_bitfield.Tie as tie

@@ -1,5 +1,4 @@
 use mathlib.Core.Path.{_≡_, refl, sym, _∙_}
-use Prim.Native.Nat.{_-_}
 use Rattle.stringpool.specs.Pool.{rooms}
 use lib.IntN.{ℤ}
 use mir.Syntax.{w32}

@@ -1,5 +1,4 @@
 use mathlib.Core.Path.{_≡_, sym, _∙_}
-use Prim.Native.Nat.{_-_}
 use lib.ListN.{getD}
 use Rattle.stringpool.specs.Pool.{rooms}
 use lib.IntN.{ℤ}

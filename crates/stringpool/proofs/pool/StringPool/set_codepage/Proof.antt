@@ -1,5 +1,4 @@
 use mathlib.Core.Path.{sym, _∙_}
-use Prim.Native.Nat.{_-_}
 use Rattle.stringpool.specs.Pool.{rooms}
 use Rattle.stringpool.specs.Pages.{pageAnswer}
 use Rattle.stringpool.proofs.House.{answer-refused, answer-passed}

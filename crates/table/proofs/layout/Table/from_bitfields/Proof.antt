@@ -2,20 +2,19 @@ use Rattle.table.proofs.Bits.{bits-given, bits-bad, bits-turn, bits-sto
 -- `Table::from_bitfields` meets its contract: what the bitfields that are left make of the columns so far, is what all make. Assumes nothing.
 use Rattle.table.specs.Layout.{eachAt, unused}
 use Rattle.column.specs.Columns.{building, bitsColumn, columnMadeAs}
-use Rattle.column.specs.declared.column.Column.{Column}
 use Rattle.common.proofs.Parts.{over-none}
-use Rattle.common.specs.Answers.{Answer, gives, onGiven, refused, nowhere}
+use Rattle.common.specs.Answers.{gives, onGiven}
 use Rattle.common.specs.Lists.{overAt, _over_}
 use mir.Facts.{toZ-ofZ}
 use mir.Syntax.{w32}
 use lib.Seq.{drop-cons}
-use lib.ListN.{length, getD, drop, set, length-set, drop-of-length-le}
-use lib.IntN.{ℤ, pos}
+use lib.ListN.{length, getD, drop, length-set, drop-of-length-le}
+use lib.IntN.{pos}
 use borrow.Author.Tests.{lt-ltb, le-ltb}
 use native.Mathlib.Omega.{arith}
 use native.Mathlib.Numerals.{add-one}
-use Prim.Native.Nat.{ℕ, suc, _+_, _-_, _*_, _≤_, _<_}
-use mathlib.Core.List.{List, _∷_}
+use Prim.Native.Nat.{_+_, _-_, _≤_}
+use mathlib.Core.List.{_∷_}
 use mathlib.Core.Path.{_≡_, refl, sym, ap, _∙_}
 use borrow.Author.Needs.{needs}
 use Rattle.table.proofs.layout.Table.from_bitfields.Statement.{statement}

@@ -1,9 +1,8 @@
 -- `Table::new` meets its contract. Assumes nothing.
 use Rattle.table.proofs.Layouts.{columns-refused, columns-passed}
-use Rattle.table.specs.inner.Layout.{verdictAs}
 use Rattle.table.specs.declared.layout.Table.{Table}
-use Rattle.common.specs.Answers.{Answer, gives}
-use mathlib.Core.Path.{_≡_, sym, ap, _∙_}
+use Rattle.common.specs.Answers.{gives}
+use mathlib.Core.Path.{sym}
 use borrow.Author.Needs.{needs}
 use Rattle.table.proofs.layout.Table.new.Statement.{statement}
 use Rattle.table.proofs.layout.Table.new.Tie as tie

@@ -3,10 +3,8 @@ use Rattle.table.proofs.Layouts.{columns-refused, columns-passed, judge
 use Rattle.table.specs.Reading.{rowsFound}
 use Rattle.table.specs.Rows.{rowsIn}
 use Rattle.table.specs.Layout.{typesOf}
-use Rattle.table.specs.declared.layout.Layout.{Layout}
-use Rattle.common.specs.Answers.{gives}
 use borrow.Author.Tests.{lt-ltb, le-ltb}
-use mathlib.Core.Path.{_≡_, sym, ap, _∙_}
+use mathlib.Core.Path.{_≡_}
 use borrow.Author.Needs.{needs}
 use Rattle.table.proofs.layout.Table.num_rows.Statement.{statement}
 use Rattle.table.proofs.layout.Table.num_rows.Tie as tie

@@ -3,8 +3,7 @@ use Rattle.table.proofs.Answers.{found}
 use Rattle.table.proofs.Layouts.{and-no}
 use Rattle.common.specs.Answers.{gives}
 use borrow.Author.Tests.{lt-ltb, le-ltb}
-use mathlib.Core.Bool.{Bool, true, false, _&&_}
-use mathlib.Core.Path.{_≡_, sym, ap, _∙_}
+use mathlib.Core.Path.{sym, ap}
 use borrow.Author.Needs.{needs}
 use Rattle.table.proofs.layout.Table.read_cell.Statement.{statement}
 use Rattle.table.proofs.layout.Table.read_cell.Tie as tie

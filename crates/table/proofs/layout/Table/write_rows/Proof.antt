@@ -12,9 +12,9 @@ use Rattle.common.specs.Answers.{Answer}
 use lib.ListN.{length, length-map}
 use native.Mathlib.Omega.{arith}
 use native.Mathlib.Nat.{mul-le-mul-right}
-use Prim.Native.Nat.{ℕ, _+_, _-_, _*_, _≤_, _<_}
+use Prim.Native.Nat.{ℕ, _*_, _≤_}
 use mathlib.Core.List.{List}
-use mathlib.Core.Path.{_≡_, refl, sym, ap, _∙_}
+use mathlib.Core.Path.{_≡_, sym, ap, _∙_}
 use borrow.Author.Needs.{needs}
 use Rattle.table.proofs.layout.Table.write_rows.Statement.{statement}
 use Rattle.table.proofs.layout.Table.write_rows.Tie as tie

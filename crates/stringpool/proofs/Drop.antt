@@ -1,12 +1,12 @@
 -- What counting down an entry is, on the rooms.
-use mathlib.Core.Path.{_≡_, sym, ap, subst, _∙_}
+use mathlib.Core.Path.{_≡_, sym, ap, ap₂, subst, _∙_}
 use Prim.Native.Nat.{ℕ, _+_, _-_, _≤_, _<_}
 use native.Mathlib.Omega.{arith}
 use mathlib.Core.List.{List, []}
 use lib.ListN.{length, take, getD, set}
 use lib.IntN.{ℤ}
-use lib.Dec.{leb, eqb}
-use borrow.Author.Tests.{le-leb, lt-leb, eq-eqb, ne-eqb}
+use lib.Dec.{leb}
+use borrow.Author.Tests.{le-leb, lt-leb}
 use mathlib.Core.Bool.{Bool, true, false}
 use Rattle.stringpool.specs.inner.Entries.{Entry, Rooms, rooms, Fit, entriesOf, putBack}
 use Rattle.stringpool.specs.inner.Refs.{placeOf}
@@ -17,13 +17,16 @@ use Rattle.common.specs.Choice.{if_then_else_}
 use Rattle.common.specs.Lists.{total}
 use Rattle.common.specs.Refusals.{refusedBy}
 use Rattle.common.specs.declared.refusal.Refusal.{Refusal}
-use Rattle.common.specs.declared.refusal.Refusal.the-variants.{ReferenceRange, DropPastEnd, CountZero}
+use Rattle.common.specs.declared.refusal.Refusal.the-variants.{ReferenceRange}
 use Rattle.common.proofs.Sums.{total-in}
-use Rattle.common.specs.Answers.{Answer, gives, refused, nowhere, outcome}
+use Rattle.common.specs.Answers.{Answer, gives, onGiven, outcome}
+use Rattle.order.specs.Order.{dropFits}
+use Rattle.order.proofs.Laws.{drop-fits}
+use Rattle.stringpool.specs.inner.Show.{countAt}
 use Rattle.stringpool.specs.Pool.{entry}
 use Rattle.stringpool.specs.Refs.{onReference}
 use Rattle.stringpool.specs.Drop.{dropAt, dropOutcome}
-use Rattle.stringpool.proofs.House.{byPlace, on-reference, put-same, judge-refused, judge-passed}
+use Rattle.stringpool.proofs.House.{byPlace, on-reference, put-same, judge-refused, judge-passed, count-same, count-in}
 use Rattle.stringpool.specs.declared.entry.Plan.{Plan}
 use Rattle.stringpool.specs.declared.entry.Plan.the-variants.{Refused, Count, Put}
 use Rattle.stringpool.specs.declared.pool.StringPool.{StringPool}
@@ -82,37 +85,34 @@ module _ (p : StringPool) (r : ℤ) (w : Rooms) (fit : Fit (p .«num_strings») 
   at : (a : Answer (StringPool × Rooms)) → dropAt p w (k .0) ≡ a → outcome w a ≡ outcome w (onReference r (dropAt p w))
   at a f = sym (ap (outcome w) (on-reference r (dropAt p w) ∙ ap (λ (x : Placed). byPlace x (dropAt p w)) e ∙ f))
 
-  pub drop-past : n ≤ k .0 → Drops p r w (Refused DropPastEnd)
-  drop-past h =
-      let t : leb (length es) (k .0) ≡ true = le-leb (length es) (k .0) (omega (arith, length-entries n w fit)) in
-      refusing DropPastEnd (at (refused 9 nowhere) (simp t))
+  -- by the order of a drop
+  by-fits : {a : Answer (Unit {0})} → a ≡ dropFits n (k .0) (countAt n (w .counts) (k .0)) → dropAt p w (k .0) ≡ onGiven a (λ _. gives (p, house.putBack p w (downAt es (k .0))))
+  by-fits f =
+      ap₂ (λ (i c : ℕ). onGiven (dropFits i (k .0) c) (λ _. gives (p, house.putBack p w (downAt es (k .0))))) (length-entries n w fit) (sym (count-same p w fit (k .0)))
+      ∙ ap (λ (a : Answer (Unit {0})). onGiven a (λ _. gives (p, house.putBack p w (downAt es (k .0))))) (sym f)
 
-  module _ (h : k .0 < n) where
-    there : leb (length es) (k .0) ≡ false
-    there = lt-leb (length es) (k .0) (omega (arith, length-entries n w fit))
+  pub not-dropped : (x : Refusal) → refusedBy x ≡ dropFits n (k .0) (countAt n (w .counts) (k .0)) → Drops p r w (Refused x)
+  not-dropped x f = refusing x (at (refusedBy x) (by-fits f))
 
-    pub drop-free : getD (w .counts) (k .0) 0 ≡ 0 → Drops p r w (Refused CountZero)
-    drop-free z =
-        let f : eqb (getD es (k .0) none .count) 0 ≡ true = eq-eqb (getD es (k .0) none .count) 0 (count-at n w fit (k .0) h ∙ z) in
-        refusing CountZero (at (refused 10 nowhere) (simp (there, f)))
+  module _ (f : gives tt ≡ dropFits n (k .0) (countAt n (w .counts) (k .0))) where
+    h : k .0 < n
+    h = drop-fits n (k .0) (countAt n (w .counts) (k .0)) (sym f) .0
 
-    done : 0 < getD (w .counts) (k .0) 0 → (left : Rooms) → left ≡ putBack n w (downAt es (k .0)) → (gives p, left) ≡ outcome w (onReference r (dropAt p w))
-    done z left d =
-        let f : eqb (getD es (k .0) none .count) 0 ≡ false =
-        ne-eqb (getD es (k .0) none .count) 0 (λ q. omega (arith, z, q, count-at n w fit (k .0) h)) in
-        ap (λ (y : Rooms). (gives p, y)) (d ∙ put-same p w (downAt es (k .0)))
-        ∙ at (gives (p, house.putBack p w (downAt es (k .0)))) (simp (there, f))
+    done : (left : Rooms) → left ≡ putBack n w (downAt es (k .0)) → (gives p, left) ≡ outcome w (onReference r (dropAt p w))
+    done left d = ap (λ (y : Rooms). (gives p, y)) (d ∙ put-same p w (downAt es (k .0))) ∙ at (gives (p, house.putBack p w (downAt es (k .0)))) (by-fits f)
 
-    pub drop-more : n ≤ 16777215 → 1 < getD (w .counts) (k .0) 0 → Drops p r w (Count (k .0) (getD (w .counts) (k .0) 0 - 1))
-    drop-more few z = record { is = done (omega arith) _ (down-more n w fit (k .0) h z); ready = (omega (arith, few), omega (arith, fit .counts)) }
+    pub drop-more : n ≤ 16777215 → 1 < countAt n (w .counts) (k .0) → Drops p r w (Count (k .0) (countAt n (w .counts) (k .0) - 1))
+    drop-more few z =
+        rw (sym (count-in n [] (w .counts) [] (k .0) h))
+        (record { is = done _ (down-more n w fit (k .0) h (omega (arith, z, count-in n [] (w .counts) [] (k .0) h))); ready = (omega (arith, few, h), omega (arith, fit .counts, h)) })
 
-    pub drop-last : n ≤ 16777215 → 0 < getD (w .counts) (k .0) 0 → getD (w .counts) (k .0) 0 ≤ 1
+    pub drop-last : n ≤ 16777215 → countAt n (w .counts) (k .0) ≤ 1
         → Drops p r w (Put (k .0) (total (take (k .0) (w .lengths))) (getD (w .lengths) (k .0) 0) (total (take n (w .lengths))) 0)
-    drop-last few z y =
+    drop-last few y =
         let inside : total (take (k .0) (w .lengths)) + getD (w .lengths) (k .0) 0 ≤ total (take n (w .lengths)) = total-in (w .lengths) (k .0) n h (fit .lengths) in
         record {
-          is = done z _ (sym (put-one n w fit (k .0) h none (omega (arith, fit .text))) ∙ down-last n w fit (k .0) h y);
-          ready = (omega (arith, few), omega (arith, fit .lengths), omega (arith, fit .counts), omega arith, inside, fit .text, omega (arith, fit .text));
+          is = done _ (sym (put-one n w fit (k .0) h none (omega (arith, fit .text))) ∙ down-last n w fit (k .0) h (omega (arith, y, count-in n [] (w .counts) [] (k .0) h)));
+          ready = (omega (arith, few, h), omega (arith, fit .lengths, h), omega (arith, fit .counts, h), omega arith, inside, fit .text, omega (arith, fit .text));
         }
 
 -- on a pool that is judged

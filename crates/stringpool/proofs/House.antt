@@ -142,7 +142,7 @@ module _ (p : StringPool) (w : Rooms) (fit : Fit (p .«num_strings») w) (k : �
       go true e = sym (ap (λ (x : Entry). x .text) (List·getD-eq-default (entriesOf n w) none (omega (arith, length-entries n w fit, leb-true n k e))))
       go false e = sym (ap (λ (x : Entry). x .text) (entry-at n w fit k (leb-false n k e)))
 
-  count-same : countAt n (w .counts) k ≡ getD (entriesOf n w) k none .count
+  pub count-same : countAt n (w .counts) k ≡ getD (entriesOf n w) k none .count
   count-same = go (leb n k) refl
     where
       go : (b : Bool) → leb n k ≡ b → (if b then 0 else getD (w .counts) k 0) ≡ getD (entriesOf n w) k none .count

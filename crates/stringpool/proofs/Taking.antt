@@ -1,20 +1,22 @@
 -- Laws of what a take settles: its answer, and the step that it does.
 use mathlib.Core.Path.{_≡_, refl, sym, ap, ap₂, subst, _∙_}
-use Prim.Native.Nat.{ℕ, _+_, _-_, _≤_, _<_, min}
+use Prim.Native.Nat.{ℕ, _+_, _-_, _≤_, _<_}
 use native.Mathlib.Omega.{arith}
-use mathlib.Core.Bool.{Bool, true, false, not, _&&_}
+use mathlib.Core.Bool.{Bool, true, false}
 use mathlib.Core.List.{List, [], _∷_, _++_}
 use lib.ListN.{length, take, getD, set, length-append, length-set}
 use lib.IntN.{ℤ, pos}
 use lib.Dec.{ltb, leb}
 use borrow.Author.Tests.{eq-eqb, ne-eqb, lt-ltb, le-ltb, le-leb, lt-leb}
-use Rattle.common.specs.Choice.{if_then_else_, _<?_, _≤?_}
+use Rattle.common.specs.Choice.{if_then_else_, _<?_}
 use Rattle.common.specs.Lists.{total}
-use Rattle.common.specs.Answers.{Answer, gives, refused, nowhere, outcome}
+use Rattle.common.specs.Answers.{Answer, gives, refused, nowhere, onGiven, outcome}
 use Rattle.common.specs.Refusals.{refusedBy}
 use Rattle.common.specs.declared.refusal.Refusal.{Refusal}
-use Rattle.common.specs.declared.refusal.Refusal.the-variants.{OverSize, ShortReferencesFull, EntriesFull, EntryRoom, TextRoom}
+use Rattle.common.specs.declared.refusal.Refusal.the-variants.{OverSize, TextRoom}
 use Rattle.common.proofs.Sums.{total-in}
+use Rattle.order.specs.Order.{addFits, textFits}
+use Rattle.order.proofs.Laws.{add-fits}
 use Rattle.stringpool.specs.Pool.{entry, entryRoom}
 use Rattle.stringpool.specs.Take.{firstFreeOrEqual, increased, takenAt, counting, takeAt, takeAnswer, takeOutcome}
 use Rattle.stringpool.specs.inner.Entries.{Entry, Rooms, Fit, entriesOf, texts, putBack}
@@ -22,7 +24,7 @@ use Rattle.stringpool.specs.inner.Drop.{none}
 use Rattle.stringpool.specs.inner.Sound.{judgeOf}
 use Rattle.stringpool.specs.inner.Look.{LookedIs}
 use Rattle.stringpool.specs.inner.Plan.{carried, Ready, Planned}
-use Rattle.stringpool.specs.inner.Take.{placeIn, shortFull, judgeTake, chosenOf, Known, FreeAt, holdingAt, takenBy, Numbered}
+use Rattle.stringpool.specs.inner.Take.{placeIn, judgeTake, chosenOf, Known, FreeAt, holdingAt, takenBy, Numbered}
 use Rattle.stringpool.specs.declared.pool.StringPool.{StringPool}
 use Rattle.stringpool.specs.declared.refs.EntryPlace.{EntryPlace}
 use Rattle.stringpool.specs.declared.choice.Chosen.{Chosen}
@@ -52,11 +54,8 @@ module _ (p : StringPool) (w : Rooms) (fit : Fit (p .«num_strings») w) (t : Li
   -- the public definition, by whether an entry is new, how many there are, what they become and the place
   abbrev TakeBy : Bool → ℕ → List Entry → ℕ → Answer ((ℤ × StringPool) × Rooms)
   TakeBy new m after k =
-      if new && not (p .«long_string_refs») && 65535 ≤? m then refused 11 nowhere
-      else if new && 16777215 ≤? m then refused 12 nowhere
-      else if new && entryRoom w ≤? m then refused 4 nowhere
-      else if length (w .text) <? length (texts after) then refused 6 nowhere
-      else gives ((pos (k + 1), counting p (length after)), house.putBack p w after)
+      onGiven (if new then addFits (p .«long_string_refs») m (entryRoom w) (length (texts after)) (length (w .text)) else textFits (length (texts after)) (length (w .text)))
+      (λ _. gives ((pos (k + 1), counting p (length after)), house.putBack p w after))
 
   known : length es ≡ n
   known = length-entries n w fit
@@ -64,7 +63,7 @@ module _ (p : StringPool) (w : Rooms) (fit : Fit (p .«num_strings») w) (t : Li
   module _ (k : EntryPlace) (hk : k .0 < n) where
     -- at an entry that is there and becomes e, where the texts exceed the room or not
     abbrev AtEntry : Entry → Bool → Answer ((ℤ × StringPool) × Rooms)
-    AtEntry e b = if b then refused 6 nowhere else gives ((pos (k .0 + 1), p), house.putBack p w (set es (k .0) e))
+    AtEntry e b = onGiven {A = Unit {0}} (if b then refused 6 nowhere else gives tt) (λ _. gives ((pos (k .0 + 1), p), house.putBack p w (set es (k .0) e)))
 
     at-entry : (e : Entry) → increased t (getD es (k .0) none) ≡ e → takeAt p w t (k .0) ≡ AtEntry e (ltb (length (w .text)) (length (texts (set es (k .0) e))))
     at-entry e f =
@@ -72,7 +71,7 @@ module _ (p : StringPool) (w : Rooms) (fit : Fit (p .«num_strings») w) (t : Li
         let old : leb (length es) (k .0) ≡ false = lt-leb (length es) (k .0) (omega (arith, known)) in
         let made : takenAt t (k .0) es ≡ set es (k .0) e = ap₂ (λ (b : Bool) (x : Entry). if b then set es (k .0) x else es ++ (entry t 1 ∷ [])) there f in
         ap₂ (λ (b : Bool) (x : List Entry). TakeBy b (length es) x (k .0)) old made
-        ∙ ap (λ (i : ℕ). if ltb (length (w .text)) (length (texts (set es (k .0) e))) then refused 6 nowhere else gives ((pos (k .0 + 1), counting p i), house.putBack p w (set es (k .0) e)))
+        ∙ ap (λ (i : ℕ). onGiven (textFits (length (texts (set es (k .0) e))) (length (w .text))) (λ _. gives ((pos (k .0 + 1), counting p i), house.putBack p w (set es (k .0) e))))
         (length-set es (k .0) e ∙ known)
 
     done-at : (e : Entry) → increased t (getD es (k .0) none) ≡ e → length (texts (set es (k .0) e)) ≤ length (w .text)
@@ -121,63 +120,38 @@ module _ (p : StringPool) (w : Rooms) (fit : Fit (p .«num_strings») w) (t : Li
             ready = (omega arith, omega (arith, fit .lengths), omega (arith, fit .counts), omega arith, total-in (w .lengths) (k .0) n hk (fit .lengths), fit .text, h);
           }
 
-  -- a new entry, by the four tests
-  abbrev Adding : Bool → Bool → Bool → Bool → Answer ((ℤ × StringPool) × Rooms)
-  Adding a b c d =
-      if a then refused 11 nowhere else if b then refused 12 nowhere else if c then refused 4 nowhere else if d then refused 6 nowhere
-      else gives ((pos (n + 1), counting p (length (es ++ (entry t 1 ∷ [])))), house.putBack p w (es ++ (entry t 1 ∷ [])))
+  -- a new entry
+  abbrev Fitting : Answer (Unit {0})
+  Fitting = addFits (p .«long_string_refs») n (entryRoom w) (total (take n (w .lengths)) + length t) (length (w .text))
 
-  abbrev full : Bool
-  full = ltb (length (w .text)) (length (texts (es ++ (entry t 1 ∷ []))))
+  abbrev Grown : Answer ((ℤ × StringPool) × Rooms)
+  Grown = gives ((pos (n + 1), counting p (length (es ++ (entry t 1 ∷ [])))), house.putBack p w (es ++ (entry t 1 ∷ [])))
 
-  adding : takeAt p w t n ≡ Adding (shortFull p) (leb 16777215 n) (leb (entryRoom w) n) full
-  adding =
+  adding : (a : Answer (Unit {0})) → a ≡ Fitting → takeAt p w t n ≡ onGiven a (λ _. Grown)
+  adding a e =
       let new : leb (length es) n ≡ true = le-leb (length es) n (omega (arith, known)) in
-      let past : ltb n (length es) ≡ false = le-ltb n (length es) (omega (arith, known)) in
+      let beyond : ltb n (length es) ≡ false = le-ltb n (length es) (omega (arith, known)) in
       let made : takenAt t n es ≡ es ++ (entry t 1 ∷ []) =
-      ap (λ (b : Bool). if b then set es n (increased t (getD es n none)) else es ++ (entry t 1 ∷ [])) past in
+      ap (λ (b : Bool). if b then set es n (increased t (getD es n none)) else es ++ (entry t 1 ∷ [])) beyond in
       ap₂ (λ (b : Bool) (x : List Entry). TakeBy b (length es) x n) new made
-      ∙ ap (λ (m : ℕ). TakeBy true m (es ++ (entry t 1 ∷ [])) n) known
+      ∙ ap₂ (λ (m i : ℕ). onGiven (addFits (p .«long_string_refs») m (entryRoom w) i (length (w .text))) (λ _. Grown)) known (length-texts-added n w fit (entry t 1))
+      ∙ ap (λ (x : Answer (Unit {0})). onGiven x (λ _. Grown)) (sym e)
 
-  refused-by : (x : Refusal) → Adding (shortFull p) (leb 16777215 n) (leb (entryRoom w) n) full ≡ refusedBy x → At p w t n (Refused x)
-  refused-by x e = refusing x (sym (ap (outcome w) (adding ∙ e)))
+  pub added-refused : (x : Refusal) → refusedBy x ≡ Fitting → At p w t n (Refused x)
+  added-refused x e = refusing x (sym (ap (outcome w) (adding (refusedBy x) e)))
 
-  pub added-short : shortFull p ≡ true → At p w t n (Refused ShortReferencesFull)
-  added-short a = refused-by ShortReferencesFull (ap (λ (x : Bool). Adding x (leb 16777215 n) (leb (entryRoom w) n) full) a)
-
-  module _ (a : shortFull p ≡ false) where
-    pub added-long : 16777215 ≤ n → At p w t n (Refused EntriesFull)
-    added-long b =
-        refused-by EntriesFull (ap₂ (λ (x y : Bool). Adding x y (leb (entryRoom w) n) full) a (le-leb 16777215 n b))
-
-    module _ (b : n < 16777215) where
-      -- both tests on the number are past
-      few : Adding (shortFull p) (leb 16777215 n) (leb (entryRoom w) n) full ≡ Adding false false (leb (entryRoom w) n) full
-      few = ap₂ (λ (x y : Bool). Adding x y (leb (entryRoom w) n) full) a (lt-leb 16777215 n b)
-
-      pub added-entries : min (length (w .lengths)) (length (w .counts)) ≤ n → At p w t n (Refused EntryRoom)
-      added-entries c = refused-by EntryRoom (few ∙ ap (λ (x : Bool). Adding false false x full) (le-leb (entryRoom w) n c))
-
-      module _ (c : n < min (length (w .lengths)) (length (w .counts))) where
-        pub added-full : length (w .text) < total (take n (w .lengths)) + length t → At p w t n (Refused TextRoom)
-        added-full d =
-            let all : ℕ = length (texts (es ++ (entry t 1 ∷ []))) in
-            refused-by TextRoom (few ∙ ap₂ (Adding false false) (lt-leb (entryRoom w) n c) (lt-ltb (length (w .text)) all (omega (arith, length-texts-added n w fit (entry t 1)))))
-
-        pub added-done : length t ≤ 268435455 → total (take n (w .lengths)) + length t ≤ length (w .text)
-            → At p w t n (Put n (total (take n (w .lengths))) 0 (total (take n (w .lengths))) 1)
-        added-done s d =
-            let all : ℕ = length (texts (es ++ (entry t 1 ∷ []))) in
-            let grown : n + 1 ≡ length (es ++ (entry t 1 ∷ [])) = sym (length-append es (entry t 1 ∷ []) ∙ ap (λ (i : ℕ). i + 1) known) in
-            record {
-              is =
-                  ap (λ (b : Bool). (gives (pos (n + 1), if b then p else counting p (n + 1)), carried (Put n (total (take n (w .lengths))) 0 (total (take n (w .lengths))) 1) w t)) (le-ltb n n (omega arith))
-                  ∙ ap (λ (y : Rooms). (gives (pos (n + 1), counting p (n + 1)), y)) (sym (put-added n w fit (entry t 1) (omega arith) (omega arith)) ∙ put-same p w (es ++ (entry t 1 ∷ [])))
-                  ∙ ap (λ (i : ℕ). (gives (pos (n + 1), counting p i), house.putBack p w (es ++ (entry t 1 ∷ [])))) grown
-                  ∙ sym (ap (outcome w) (adding ∙ few
-                  ∙ ap₂ (Adding false false) (lt-leb (entryRoom w) n c) (le-ltb (length (w .text)) all (omega (arith, length-texts-added n w fit (entry t 1))))));
-              ready = (omega arith, omega arith, omega arith, omega arith, omega arith, fit .text, omega arith);
-            }
+  pub added-done : gives tt ≡ Fitting → length t ≤ 268435455 → At p w t n (Put n (total (take n (w .lengths))) 0 (total (take n (w .lengths))) 1)
+  added-done e s =
+      let f = add-fits (p .«long_string_refs») n (entryRoom w) (total (take n (w .lengths)) + length t) (length (w .text)) (sym e) in
+      let grown : n + 1 ≡ length (es ++ (entry t 1 ∷ [])) = sym (length-append es (entry t 1 ∷ []) ∙ ap (λ (i : ℕ). i + 1) known) in
+      record {
+        is =
+            ap (λ (b : Bool). (gives (pos (n + 1), if b then p else counting p (n + 1)), carried (Put n (total (take n (w .lengths))) 0 (total (take n (w .lengths))) 1) w t)) (le-ltb n n (omega arith))
+            ∙ ap (λ (y : Rooms). (gives (pos (n + 1), counting p (n + 1)), y)) (sym (put-added n w fit (entry t 1) (omega (arith, f .1)) (omega (arith, f .1))) ∙ put-same p w (es ++ (entry t 1 ∷ [])))
+            ∙ ap (λ (i : ℕ). (gives (pos (n + 1), counting p i), house.putBack p w (es ++ (entry t 1 ∷ [])))) grown
+            ∙ sym (ap (outcome w) (adding (gives tt) e));
+        ready = (omega (arith, f .0), omega (arith, f .1), omega (arith, f .1), omega arith, omega arith, fit .text, omega (arith, f .2));
+      }
 
 -- the same by the numbers that were handed over
 module _ (p : StringPool) (k : EntryPlace) (start old used room size : ℕ) (w : Rooms) (t : List ℕ)
@@ -189,11 +163,18 @@ module _ (p : StringPool) (k : EntryPlace) (start old used room size : ℕ) (w :
   free-planned h =
       rw (f .begins, f .long, q .sum) (free-done p w (q .fit) t k (f .within) (f .free) (q .few) (q .small) (omega (arith, q .sum, q .text, q .new, f .long, h)))
 
-pub added-planned : (p : StringPool) (used room size : ℕ) (w : Rooms) (t : List ℕ) → Known p w t used room size
-    → shortFull p ≡ false → p .«num_strings» < 16777215 → p .«num_strings» < length (w .lengths) → p .«num_strings» < length (w .counts)
-    → used + size ≤ room → At p w t (p .«num_strings») (Put (p .«num_strings») used 0 used 1)
-added-planned p used room size w t q a b hl hc h =
-    rw (q .sum) (added-done p w (q .fit) t a b (omega arith) (q .small) (omega (arith, q .sum, q .text, q .new, h)))
+module _ (p : StringPool) (entries used room size : ℕ) (w : Rooms) (t : List ℕ) (q : Known p w t used room size) (r : entries ≡ entryRoom w) where
+  -- the entries, the sizes and the room, by other names
+  fitting : addFits (p .«long_string_refs») (p .«num_strings») entries (used + size) room ≡ Fitting p w (q .fit) t
+  fitting =
+      ap₂ (λ (i j : ℕ). addFits (p .«long_string_refs») (p .«num_strings») i j room) r (ap₂ _+_ (q .sum) (sym (q .new)))
+      ∙ ap (addFits (p .«long_string_refs») (p .«num_strings») (entryRoom w) (total (take (p .«num_strings») (w .lengths)) + length t)) (sym (q .text))
+
+  pub not-added : (x : Refusal) → refusedBy x ≡ addFits (p .«long_string_refs») (p .«num_strings») entries (used + size) room → At p w t (p .«num_strings») (Refused x)
+  not-added x e = added-refused p w (q .fit) t x (e ∙ fitting)
+
+  pub added : gives tt ≡ addFits (p .«long_string_refs») (p .«num_strings») entries (used + size) room → At p w t (p .«num_strings») (Put (p .«num_strings») used 0 used 1)
+  added e = rw (q .sum) (added-done p w (q .fit) t (e ∙ fitting) (q .small))
 
 -- the sizes and the soundness judged, and then the take
 on-take : (p : StringPool) (w : Rooms) (t : List ℕ) → takeAnswer firstFreeOrEqual p w t ≡ byJudge (judgeTake p w t) (takeAt p w t (firstFreeOrEqual t (entriesOf (p .«num_strings») w)))

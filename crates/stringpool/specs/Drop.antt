@@ -3,8 +3,9 @@ use Prim.Native.Nat.{ℕ, _-_}
 use mathlib.Core.List.{[]}
 use lib.ListN.{length, getD, set}
 use lib.IntN.{ℤ}
-use Rattle.common.specs.Choice.{if_then_else_, _≤?_, _=?_}
-use Rattle.common.specs.Answers.{Answer, gives, refused, nowhere, outcome}
+use Rattle.common.specs.Choice.{if_then_else_, _≤?_}
+use Rattle.common.specs.Answers.{Answer, gives, onGiven, outcome}
+use Rattle.order.specs.Order.{dropFits}
 use Rattle.common.specs.Refusals.{refusedBy}
 use Rattle.stringpool.specs.Pool.{Entry, entry, Rooms, entriesOf, putBack, onSound}
 use Rattle.stringpool.specs.Refs.{onReference}
@@ -16,14 +17,12 @@ use Rattle.stringpool.specs.declared.drops.Dropped.the-variants as dropp
 abbrev pub lessened : Entry → Entry
 lessened e = if e .count ≤? 1 then entry [] 0 else entry (e .text) (e .count - 1)
 
--- "Drop: 8, 9, 10": "drop past the last entry", "drop of a count of 0"
+-- "Drop: 8, 9, 10"
 abbrev pub dropAt : StringPool → Rooms → ℕ → Answer (StringPool × Rooms)
 dropAt p w k =
     let es = entriesOf p w in
     let e = getD es k (entry [] 0) in
-    if length es ≤? k then refused 9 nowhere
-    else if e .count =? 0 then refused 10 nowhere
-    else gives (p, putBack p w (set es k (lessened e)))
+    onGiven (dropFits (length es) k (e .count)) (λ _. gives (p, putBack p w (set es k (lessened e))))
 
 abbrev pub dropAnswer : StringPool → Rooms → ℤ → Answer (StringPool × Rooms)
 dropAnswer p w r = onSound p w (onReference r (dropAt p w))

@@ -1,20 +1,18 @@
 -- An empty pool, and a pool with another code page.
 use Prim.Native.Nat.{ℕ}
 use mathlib.Core.Bool.{false}
-use Rattle.common.specs.Choice.{if_then_else_, _<?_}
-use Rattle.common.specs.Answers.{Answer, gives, refused, nowhere}
+use Rattle.common.specs.Answers.{Answer, gives, onGiven}
 use Rattle.common.specs.Refusals.{refusedBy}
+use Rattle.order.specs.Order.{pageFits}
 use Rattle.stringpool.specs.Pool.{Rooms, onSound}
 use Rattle.stringpool.specs.declared.pool.StringPool.{StringPool}
 use Rattle.stringpool.specs.declared.pages.Pooled.{Pooled}
 use Rattle.stringpool.specs.declared.pages.Pooled.the-variants as pooled
-use Rattle.common.specs.Sizes.{maxCodepage}
 
 -- "code page above 2,147,483,647"
 abbrev pub pageAnswer : StringPool → ℕ → Answer StringPool
 pageAnswer p page =
-    if maxCodepage <? page then refused 21 nowhere
-    else gives (record { «num_strings» = p .«num_strings»; «long_string_refs» = p .«long_string_refs»; codepage = page })
+    onGiven (pageFits page) (λ _. gives (record { «num_strings» = p .«num_strings»; «long_string_refs» = p .«long_string_refs»; codepage = page }))
 
 -- "Making an empty (short) pool or setting the code page: 21."
 abbrev pub newAnswer : ℕ → Answer StringPool

@@ -1,18 +1,18 @@
 -- What a take answers and what it leaves.
 use Prim.Native.Nat.{ℕ, _+_}
-use mathlib.Core.Bool.{not, _&&_}
 use mathlib.Core.List.{List, [], _∷_, _++_}
 use lib.ListN.{length, getD, set}
 use lib.IntN.{ℤ, pos}
 use Rattle.common.specs.Choice.{if_then_else_, _<?_, _≤?_}
-use Rattle.common.specs.Answers.{Answer, gives, refused, nowhere, outcome}
+use Rattle.common.specs.Answers.{Answer, gives, refused, nowhere, onGiven, outcome}
+use Rattle.order.specs.Order.{addFits, textFits}
 use Rattle.common.specs.Refusals.{refusedBy}
 pub use Rattle.pool_entries.specs.Choose.{sameBytes, equal, firstPlace, Chooser, firstFreeOrEqual}
 use Rattle.stringpool.specs.Pool.{Entry, entry, Rooms, entriesOf, texts, putBack, entryRoom, free, onSound}
 use Rattle.stringpool.specs.declared.pool.StringPool.{StringPool}
 use Rattle.stringpool.specs.declared.takes.Taken.{Taken}
 use Rattle.stringpool.specs.declared.takes.Taken.the-variants as taken
-use Rattle.common.specs.Sizes.{maxBytes, maxEntries}
+use Rattle.common.specs.Sizes.{maxBytes}
 
 -- "An equal one counts up. A free one gets the text and count 1, and any old bytes go."
 abbrev pub increased : List ℕ → Entry → Entry
@@ -26,18 +26,14 @@ takenAt t k es = if k <? length es then set es k (increased t (getD es k (entry 
 abbrev pub counting : StringPool → ℕ → StringPool
 counting p n = record { «num_strings» = n; «long_string_refs» = p .«long_string_refs»; codepage = p .codepage }
 
--- "Take: 11, 12, 4, 6": the first three where a new entry is wanted, and "6 exactly if the total after the replacement or addition
--- exceeds the text room; the chosen entry stays the choice"
+-- "Take: 11, 12, 4, 6": the first three where a new entry is wanted; "the chosen entry stays the choice"
 abbrev pub takeAt : StringPool → Rooms → List ℕ → ℕ → Answer ((ℤ × StringPool) × Rooms)
 takeAt p w t k =
     let es = entriesOf p w in
-    let new = length es ≤? k in
     let after = takenAt t k es in
-    if new && not (p .«long_string_refs») && 65535 ≤? length es then refused 11 nowhere
-    else if new && maxEntries ≤? length es then refused 12 nowhere
-    else if new && entryRoom w ≤? length es then refused 4 nowhere
-    else if length (w .text) <? length (texts after) then refused 6 nowhere
-    else gives ((pos (k + 1), counting p (length after)), putBack p w after)
+    let size = length (texts after) in
+    onGiven (if length es ≤? k then addFits (p .«long_string_refs») (length es) (entryRoom w) size (length (w .text)) else textFits size (length (w .text)))
+    (λ _. gives ((pos (k + 1), counting p (length after)), putBack p w after))
 
 -- 22 for the text and for the text room, then 24
 abbrev pub takeAnswer : Chooser → StringPool → Rooms → List ℕ → Answer ((ℤ × StringPool) × Rooms)

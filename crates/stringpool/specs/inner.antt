@@ -1,7 +1,6 @@
 -- What the contracts of private functions say; the public ones cite nothing of it.
 pub mod Drop
 pub mod Entries
-pub mod Load
 pub mod Look
 pub mod Plan
 pub mod Refs

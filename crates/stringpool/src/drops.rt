@@ -1,6 +1,7 @@
 // Drop: one reference less on an entry.
 use crate::entry::Plan;
 use crate::entry::carry_out;
+use crate::entry::count_of;
 use crate::entry::start_of;
 use crate::judge::Judged;
 use crate::judge::judge;
@@ -8,6 +9,8 @@ use crate::pool::StringPool;
 use crate::refs::Placed;
 use crate::refs::StringRef;
 use common::Refusal;
+use order::Fits;
+use order::drop_fits;
 ghost use mathlib.Core.Path.{_≡_};
 ghost use Prim.Native.Nat.{ℕ, _≤_};
 ghost use mathlib.Core.List.{List, []};
@@ -85,12 +88,10 @@ fn drop_sound(p: StringPool, lengths: &[u32], counts: &[u16], r: StringRef, used
         return Plan::Refused(Refusal::ReferenceRange);
     };
     let at = place.0;
-    if at >= p.num_strings {
-        return Plan::Refused(Refusal::DropPastEnd);
-    }
-    let count = counts[at];
-    if count == 0 {
-        return Plan::Refused(Refusal::CountZero);
+    let count = count_of(p.num_strings, counts, at);
+    let fits = drop_fits(p.num_strings, at, count);
+    if let Fits::Refused(why) = fits {
+        return Plan::Refused(why);
     }
     if count > 1 {
         return Plan::Count(at, count - 1);

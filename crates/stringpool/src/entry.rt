@@ -7,6 +7,7 @@ ghost use lib.ListN.{length, take};
 ghost use Rattle.common.specs.Lists.{total};
 ghost use Rattle.stringpool.specs.Pool.{rooms};
 ghost use Rattle.stringpool.specs.inner.Plan.{carried, Ready};
+ghost use Rattle.stringpool.specs.inner.Show.{countAt};
 
 pub(crate) enum Plan {
     Refused(Refusal),
@@ -51,6 +52,17 @@ pub(crate) fn carry_out(
             counts[at] = count;
         }
     }
+}
+
+// The count of the entry k of n, 0 past the end.
+pub(crate) fn count_of(n: usize, counts: &[u16], k: usize) -> u16
+    requires { ⌜ n ≤ length (now counts) ⌝ }
+    ensures { λ r. ⌜ r ≡ countAt n (now (counts .entry)) k ⌝ }
+{
+    if k >= n {
+        return 0;
+    }
+    counts[k]
 }
 
 // Where the text of the entry k starts: the sum of the lengths before it.

@@ -3,7 +3,8 @@ use crate::judge::Judged;
 use crate::judge::judge;
 use crate::pool::StringPool;
 use common::Refusal;
-use common::sizes::MAX_CODEPAGE;
+use order::Fits;
+use order::page_fits;
 ghost use mathlib.Core.Path.{_≡_};
 ghost use Rattle.stringpool.specs.Pool.{rooms};
 ghost use Rattle.stringpool.specs.Pages.{pooledAs, newAnswer, pageAnswer, setPageAnswer};
@@ -42,8 +43,9 @@ impl StringPool {
 fn with_page(p: StringPool, codepage: u32) -> Pooled
     ensures { λ a. ⌜ pooledAs a ≡ pageAnswer p codepage ⌝ }
 {
-    if codepage > MAX_CODEPAGE {
-        return Pooled::Refused(Refusal::CodepageRange);
+    let fits = page_fits(codepage);
+    if let Fits::Refused(why) = fits {
+        return Pooled::Refused(why);
     }
     Pooled::Is(StringPool {
         num_strings: p.num_strings,

@@ -1,4 +1,5 @@
 // Show: the text of a reference as a part of the lent text room, and its count.
+use crate::entry::count_of;
 use crate::entry::start_of;
 use crate::judge::Judged;
 use crate::judge::judge;
@@ -98,9 +99,5 @@ fn count_sound(n: usize, counts: &[u16], r: StringRef) -> Counted
     let Placed::At(place) = r.place() else {
         return Counted::Refused(Refusal::ReferenceRange);
     };
-    let at = place.0;
-    if at >= n {
-        return Counted::Is(0);
-    }
-    Counted::Is(counts[at])
+    Counted::Is(count_of(n, counts, place.0))
 }

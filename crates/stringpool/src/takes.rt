@@ -8,16 +8,17 @@ use crate::pool::StringPool;
 use crate::refs::EntryPlace;
 use crate::refs::StringRef;
 use common::Refusal;
-use common::sizes::MAX_ENTRIES;
+use order::Fits;
+use order::add_fits;
+use pool_stream::entry_room;
 ghost use mathlib.Core.Path.{_≡_};
 ghost use Prim.Native.Nat.{ℕ, _≤_, _<_};
 ghost use mathlib.Core.List.{List};
-ghost use lib.ListN.{length};
 ghost use Rattle.common.specs.Answers.{outcome};
-ghost use Rattle.stringpool.specs.Pool.{Rooms, rooms};
+ghost use Rattle.stringpool.specs.Pool.{Rooms, rooms, entryRoom};
 ghost use Rattle.stringpool.specs.Take.{takenAs, takeAt, takeOutcome, firstFreeOrEqual};
 ghost use Rattle.stringpool.specs.inner.Plan.{Planned};
-ghost use Rattle.stringpool.specs.inner.Take.{Known, FreeAt, shortFull, takenBy, holdingAt, Numbered};
+ghost use Rattle.stringpool.specs.inner.Take.{Known, FreeAt, takenBy, holdingAt, Numbered};
 
 pub enum Taken {
     Ref(StringRef, StringPool),
@@ -62,7 +63,10 @@ fn plan_take(p: StringPool, lengths: &[u32], counts: &[u16], text: &[u8], new: &
                 let old = lengths[at] as usize;
                 put_free(p, place, looked.start, old, used, text.len(), new.len())
             }
-            Chosen::Added => put_added(p, lengths.len(), counts.len(), used, text.len(), new.len()),
+            Chosen::Added => {
+                let entries = entry_room(lengths.len(), counts.len());
+                put_added(p, entries, used, text.len(), new.len())
+            }
         },
     }
 }
@@ -126,50 +130,22 @@ fn put_free(
     }
 }
 
-// Whether short references leave no number for a new entry.
-fn short_full(p: StringPool) -> bool
-    ensures { λ r. ⌜ r ≡ shortFull p ⌝ }
-{
-    if p.long_string_refs {
-        return false;
-    }
-    p.num_strings >= 65535
-}
-
 // An entry is added, where the rooms hold it.
-fn put_added(
-    p: StringPool,
-    lengths: usize,
-    counts: usize,
-    used: usize,
-    room: usize,
-    size: usize,
-) -> Plan
+fn put_added(p: StringPool, entries: usize, used: usize, room: usize, size: usize) -> Plan
     requires { ⌜ (used ≤ 268435455) × (size ≤ 268435455) ⌝ }
-    ensures { λ r. ⌜ ((w : Rooms) (t : List ℕ) → Known p w t used room size → length (w .lengths) ≡ lengths → length (w .counts) ≡ counts
+    ensures { λ r. ⌜ ((w : Rooms) (t : List ℕ) → Known p w t used room size → entries ≡ entryRoom w
         → Planned (outcome w (takeAt p w t (p .«num_strings»))) (takenBy p r) r w t) ⌝ }
 {
     let n = p.num_strings;
-    if short_full(p) {
-        return Plan::Refused(Refusal::ShortReferencesFull);
-    }
-    if n >= MAX_ENTRIES {
-        return Plan::Refused(Refusal::EntriesFull);
-    }
-    if n >= lengths {
-        return Plan::Refused(Refusal::EntryRoom);
-    }
-    if n >= counts {
-        return Plan::Refused(Refusal::EntryRoom);
-    }
-    if used + size > room {
-        return Plan::Refused(Refusal::TextRoom);
-    }
-    Plan::Put {
-        at: n,
-        start: used,
-        old: 0,
-        used,
-        count: 1,
+    let fits = add_fits(p.long_string_refs, n, entries, used + size, room);
+    match fits {
+        Fits::Refused(why) => Plan::Refused(why),
+        Fits::Yes => Plan::Put {
+            at: n,
+            start: used,
+            old: 0,
+            used,
+            count: 1,
+        },
     }
 }

@@ -23,9 +23,10 @@ use Rattle.stringpool.specs.inner.Write.{entriesBytes, poolStream}
 use Rattle.stringpool.specs.declared.pool.StringPool.{StringPool}
 use Rattle.stringpool.proofs.Entries.{both, lengths-cut, counts-cut, texts-cut}
 use Rattle.stringpool.proofs.Sound.{SoundFit, then-second, false-true}
-use Rattle.stringpool.proofs.Streams.{is-narrow, is-wide, length-narrow, length-wide, length-entry, pool-same, write-done}
+use Rattle.pool_stream.proofs.Writing.{is-narrow, is-wide, length-narrow, length-wide, length-entry, write-done}
+use Rattle.stringpool.proofs.Streams.{pool-same}
 use Rattle.stringpool_promises.specs.Promises.{SoundState, Counts16, ReadsBack, Writes}
-use Rattle.stringpool.proofs.Loads.{load-judged}
+use Rattle.order.proofs.Laws.{streams-do}
 use Rattle.stringpool_promises.proofs.Lists.{cut-texts}
 use Rattle.stringpool_promises.proofs.Sounds.{sound-fits}
 
@@ -207,7 +208,8 @@ module _ (p : StringPool) (w : Rooms) (f : SoundFit p w) (size : length (w .text
         let fc : ltb (length D) (total L) ≡ false = le-ltb (length D) (total L) (omega (arith, length-D)) in
         let fd : ltb (length (v .text)) (total L) ≡ false = le-ltb (length (v .text)) (total L) (omega (arith, length-D, text)) in
         let g : loadEntries S D v (L, C) ≡ gives (poolFrom S (length L), Left) = simp (fa, fb, fc, fd) in
-        sym (load-judged S D v (omega (arith, b, many, f .few, length-S)) (omega (arith, length-D, f .fit .text)) small (omega (arith, length-S)))
+        ap (λ (a : Answer (Unit {0})). outcome v (onGiven a (λ _. onGiven (poolEntries S) (loadEntries S D v))))
+        (streams-do (length S) (length D) (length (v .text)) (omega (arith, b, many, f .few, length-S)) (omega (arith, length-D, f .fit .text)) small (omega (arith, length-S)))
         ∙ ap (λ (x : Answer (List ℕ × List ℕ)). outcome v (onGiven x (loadEntries S D v))) e
         ∙ ap (outcome v) g
         ∙ ap (λ (i : ℕ). (gives (poolFrom S i), Left)) many ∙ ap (λ (q : StringPool). (gives q, Left)) marked-pool

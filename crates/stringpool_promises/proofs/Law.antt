@@ -25,6 +25,8 @@ use Rattle.common.proofs.Sums.{total-in}
 use Rattle.stringpool_promises.proofs.Lists.{entries-put}
 use Rattle.stringpool.proofs.Sound.{SoundFit, false-true}
 use Rattle.common.proofs.Outcomes.{Case, no, yes, test, not-true}
+use Rattle.order.specs.Order.{addFits, textFits, dropFits}
+use Rattle.order.proofs.Laws.{ordered, add-fits, text-fits, drop-fits}
 use Rattle.stringpool_promises.proofs.Sounds.{sound-fits}
 use Rattle.stringpool.proofs.House.{put-same}
 use Rattle.stringpool_promises.proofs.Steps.{At, take-sum, take-length, take-count, take-text, drop-sum, drop-count, drop-text, lessened-length}
@@ -46,9 +48,12 @@ pub record Took (p : StringPool) (w : Rooms) (t : List ℕ) (k : ℕ) : Type 0 w
   pub few : length (takenAt t k (entriesOf p w)) ≤ 16777215
   pub fits : length (texts (takenAt t k (entriesOf p w))) ≤ length (w .text)
 
-full : (a b : Bool) → (a && b) ≡ false → a ≡ true → b ≡ false
-full true b e f = e
-full false b e f = absurd (false-true f)
+-- the order of a take, where a new entry is wanted or not
+abbrev Fitting : Chooser → StringPool → Rooms → List ℕ → Bool → Answer (Unit {0})
+Fitting choose p w t new =
+    let es = entriesOf p w in
+    let after = length (texts (takenAt t (choose t es) es)) in
+    if new then addFits (p .«long_string_refs») (length es) (entryRoom w) after (length (w .text)) else textFits after (length (w .text))
 
 pub take-case : (choose : Chooser) (p : StringPool) (w : Rooms) (t : List ℕ) → choose t (entriesOf p w) ≤ length (entriesOf p w)
     → Case (takeAnswer choose p w t)
@@ -57,28 +62,28 @@ pub take-case : (choose : Chooser) (p : StringPool) (w : Rooms) (t : List ℕ) �
 take-case choose p w t le =
     let es : List Entry = entriesOf p w in
     let k : ℕ = choose t es in
-    let es₁ : List Entry = takenAt t k es in
-    let b₁ : Bool = leb (length es) k && not (p .«long_string_refs») && leb 65535 (length es) in
-    let b₂ : Bool = leb (length es) k && leb 16777215 (length es) in
-    let b₃ : Bool = leb (length es) k && leb (entryRoom w) (length es) in
-    let b₄ : Bool = ltb (length (w .text)) (length (texts es₁)) in
-    let x₄ : Answer ((ℤ × StringPool) × Rooms) = gives ((pos (k + 1), counting p (length es₁)), putBack p w es₁) in
-    let x₃ : Answer ((ℤ × StringPool) × Rooms) = if b₄ then refused 6 nowhere else x₄ in
-    let x₂ : Answer ((ℤ × StringPool) × Rooms) = if b₃ then refused 4 nowhere else x₃ in
-    let x₁ : Answer ((ℤ × StringPool) × Rooms) = if b₂ then refused 12 nowhere else x₂ in
-    test {x = onSound p w (takeAt p w t k)} (ltb 268435455 (length t)) 22 nowhere (λ _. on-sound {x = takeAt p w t k} p w (λ size s.
-    test {x = x₁} b₁ 11 nowhere (λ a. test {x = x₂} b₂ 12 nowhere (λ b. test {x = x₃} b₃ 4 nowhere (λ c. test {x = x₄} b₄ 6 nowhere (λ d.
+    test {x = onSound p w (takeAt p w t k)} (ltb 268435455 (length t)) 22 nowhere (λ _. on-sound {x = takeAt p w t k} p w (λ size s. ordered (Fitting choose p w t (leb (length es) k)) (λ a.
     let f : SoundFit p w = sound-fits p w s in
     let n : length es ≡ p .«num_strings» = length-entries (p .«num_strings») w (f .fit) in
-    let new : length es ≤ k → length es < 16777215 = λ h. leb-false 16777215 (length es) (full (leb (length es) k) (leb 16777215 (length es)) b (le-leb (length es) k h)) in
+    let g = fitting (leb (length es) k) refl a in
     yes refl (record {
       size = size;
       fit = f;
-      below = below (leb (length es) k) refl new (omega (arith, n, f .few));
-      few = take-length t es k 16777215 (omega (arith, n, f .few)) new;
-      fits = ltb-false _ _ d;
-    })))))))
+      below = below (leb (length es) k) refl (g .0) (omega (arith, n, f .few));
+      few = take-length t es k 16777215 (omega (arith, n, f .few)) (g .0);
+      fits = g .1;
+    }))))
   where
+    fitting : (b : Bool) → leb (length (entriesOf p w)) (choose t (entriesOf p w)) ≡ b
+        → Fitting choose p w t b ≡ gives tt
+        → (length (entriesOf p w) ≤ choose t (entriesOf p w) → length (entriesOf p w) < 16777215)
+        × (length (texts (takenAt t (choose t (entriesOf p w)) (entriesOf p w))) ≤ length (w .text))
+    fitting true h e =
+        let g = add-fits (p .«long_string_refs») (length (entriesOf p w)) (entryRoom w) (length (texts (takenAt t (choose t (entriesOf p w)) (entriesOf p w)))) (length (w .text)) e in
+        (λ _. g .0, g .2)
+    fitting false h e =
+        (λ q. absurd (omega (arith, q, leb-false (length (entriesOf p w)) (choose t (entriesOf p w)) h)), text-fits (length (texts (takenAt t (choose t (entriesOf p w)) (entriesOf p w)))) (length (w .text)) e)
+
     below : (b : Bool) → leb (length (entriesOf p w)) (choose t (entriesOf p w)) ≡ b
         → (length (entriesOf p w) ≤ choose t (entriesOf p w) → length (entriesOf p w) < 16777215) → length (entriesOf p w) ≤ 16777215 → choose t (entriesOf p w) < 16777215
     below true e new m = omega (arith, le, new (leb-true (length (entriesOf p w)) (choose t (entriesOf p w)) e))
@@ -116,14 +121,14 @@ test-given false n at v more f = f refl
 pub drop-case : (p : StringPool) (w : Rooms) (r : ℤ) → Case (dropAnswer p w r) (p, putBack p w (lessenedAt p w (placeOf r))) (DidDrop p w r)
 drop-case p w (negsuc n) = on-sound p w (λ size s. no 8 nowhere refl)
 drop-case p w (pos n) =
-    on-sound p w (λ size s. test-given (ltb n 1 || ltb 16777215 n) 8 nowhere (pos n) (λ m. dropAt p w (natAbs m - 1)) (λ a. test _ 9 nowhere (λ b. test _ 10 nowhere (λ c.
+    on-sound p w (λ size s. test-given (ltb n 1 || ltb 16777215 n) 8 nowhere (pos n) (λ m. dropAt p w (natAbs m - 1)) (λ a. ordered (dropFits (length (entriesOf p w)) (n - 1) (getD (entriesOf p w) (n - 1) none .count)) (λ b.
     yes refl (record {
       size = size;
       fit = sound-fits p w s;
       number = ap pos (let g : 1 ≤ n = ltb-false n 1 (neither (ltb n 1) (ltb 16777215 n) a .0) in omega arith);
-      inside = leb-false _ _ b;
-      counted = let g : getD (entriesOf p w) (n - 1) none .count ≡ 0 → ⊥ = eqb-false _ 0 c in omega (arith, g);
-    })))))
+      inside = drop-fits (length (entriesOf p w)) (n - 1) (getD (entriesOf p w) (n - 1) none .count) b .0;
+      counted = drop-fits (length (entriesOf p w)) (n - 1) (getD (entriesOf p w) (n - 1) none .count) b .1;
+    }))))
 
 -- ---- the state after a call
 

@@ -15,6 +15,10 @@ use borrow.Author.Tests.{ltb-true, ltb-false, le-leb, eqb-true, eqb-false, ne-eq
 use Rattle.little_endian.specs.Numbers.{numberAt}
 use Rattle.little_endian.specs.Promises.{AreBytes}
 use Rattle.little_endian.proofs.Laws.{number-lt}
+pub use Rattle.common.proofs.Outcomes.{refused-gives}
+use Rattle.common.proofs.Outcomes.{outcome-gives}
+use Rattle.order.specs.Order.{streamsFit, loadFits}
+use Rattle.order.proofs.Laws.{streams-fit, load-fits}
 use Rattle.stringpool.specs.Pool.{Rooms, rooms, entryRoom}
 use Rattle.stringpool.specs.Load.{Found, one, cut, ends, entryIn, onFound, entriesIn, poolEntries, poolFrom, loadEntries, loadAnswer, loadOutcome}
 use Rattle.stringpool.specs.inner.Sound.{smallB, allSmall}
@@ -44,17 +48,9 @@ view s = go (ltb (length s) 2) (ltb (length s) 4) (eqb (numberAt 2 s 0) 0) (ltb 
 
 -- ---- answers that give
 
-pub refused-gives : {A : Type 0} {n : ℕ} {at : Place} {x : A} → refused n at ≡ gives x → ⊥
-refused-gives e = let y : _≡_ {A = ℕ} 0 1 = cc in omega arith
-
 abbrev pub given : {A : Type 0} → A → Answer A → A
 given x (gives y) = y
 given x (refused n at) = x
-
--- a test that refuses did not
-pub passed : {A : Type 0} (b : Bool) (n : ℕ) (x : Answer A) {y : A} → (if b then refused n nowhere else x) ≡ gives y → (b ≡ false) × (x ≡ gives y)
-passed true n x e = absurd (refused-gives e)
-passed false n x e = (refl, e)
 
 pub record Gave {A B : Type 0} (a : Answer A) (f : A → Answer B) (y : B) : Type 0 where
   pub first : A
@@ -64,10 +60,6 @@ pub record Gave {A B : Type 0} (a : Answer A) (f : A → Answer B) (y : B) : Typ
 pub gave : {A B : Type 0} (a : Answer A) (f : A → Answer B) (y : B) → onGiven a f ≡ gives y → Gave a f y
 gave (gives x) f y e = record { first = x; is = refl; then' = e }
 gave (refused n at) f y e = absurd (refused-gives e)
-
-pub outcome-gives : {A W : Type 0} (was : W) (a : Answer (A × W)) (x : A) (w : W) → outcome was a ≡ (gives x, w) → a ≡ gives (x, w)
-outcome-gives was (gives y) x w e = ap₂ (λ (p : _) (q : _). gives (p, q)) (ap (λ (o : _). given x (o .0)) e) (ap (λ (o : _). o .1) e)
-outcome-gives was (refused n at) x w e = absurd (refused-gives (ap (λ (o : _). o .0) e))
 
 -- ---- an accepted load
 
@@ -85,43 +77,28 @@ pub record IsLoaded (s d : List ℕ) (w : Rooms) (p : StringPool) (v : Rooms) : 
   pub pool : p ≡ poolFrom s (length ls)
   pub left : v ≡ rooms (ls over w .lengths) (cs over w .counts) (take (total ls) d over w .text)
 
-neither : (a b c : Bool) → (a || b || c) ≡ false → (a ≡ false) × (b ≡ false) × (c ≡ false)
-neither true b c e = absurd (false-true (sym e))
-neither false true c e = absurd (false-true (sym e))
-neither false false c e = (refl, refl, e)
-
 pub is-loaded : (s d : List ℕ) (w : Rooms) (p : StringPool) (v : Rooms) → loadOutcome s d w ≡ (gives p, v) → IsLoaded s d w p v
 is-loaded s d w p v e =
-    let a = outcome-gives w (loadAnswer s d w) p v e in
-    let x₁ = onGiven (poolEntries s) (loadEntries s d w) in
-    let x₂ = if ltb (length s) 4 then refused 1 nowhere else x₁ in
-    let b = passed (ltb 268435455 (length s) || ltb 268435455 (length d) || ltb 268435455 (length (w .text))) 22 x₂ a in
-    let sizes = neither (ltb 268435455 (length s)) (ltb 268435455 (length d)) (ltb 268435455 (length (w .text))) (b .0) in
-    let c = passed (ltb (length s) 4) 1 x₁ (b .1) in
-    let g = gave (poolEntries s) (loadEntries s d w) (p, v) (c .1) in
+    let a = gave (streamsFit (length s) (length d) (length (w .text))) (λ _. onGiven (poolEntries s) (loadEntries s d w)) (p, v) (outcome-gives w (loadAnswer s d w) e) in
+    let sizes = streams-fit (length s) (length d) (length (w .text)) (a .is) in
+    let g = gave (poolEntries s) (loadEntries s d w) (p, v) (a .then') in
     let ls : List ℕ = g .first .0 in
-    let cs : List ℕ = g .first .1 in
-    let y₄ : Answer (StringPool × Rooms) = gives (poolFrom s (length ls), rooms (ls over w .lengths) (cs over w .counts) (take (total ls) d over w .text)) in
-    let y₃ : Answer (StringPool × Rooms) = if ltb (length (w .text)) (total ls) then refused 6 nowhere else y₄ in
-    let y₂ : Answer (StringPool × Rooms) = if ltb (length d) (total ls) then refused 5 nowhere else y₃ in
-    let y₁ : Answer (StringPool × Rooms) = if ltb (entryRoom w) (length ls) then refused 4 nowhere else y₂ in
-    let m = passed (ltb 16777215 (length ls)) 3 y₁ (g .then') in
-    let n = passed (ltb (entryRoom w) (length ls)) 4 y₂ (m .1) in
-    let o = passed (ltb (length d) (total ls)) 5 y₃ (n .1) in
-    let q = passed (ltb (length (w .text)) (total ls)) 6 y₄ (o .1) in
+    let ready : StringPool × Rooms = (poolFrom s (length ls), rooms (ls over w .lengths) (g .first .1 over w .counts) (take (total ls) d over w .text)) in
+    let b = gave (loadFits (length ls) (total ls) (entryRoom w) (length d) (length (w .text))) (λ _. gives ready) (p, v) (g .then') in
+    let fits = load-fits (length ls) (total ls) (entryRoom w) (length d) (length (w .text)) (b .is) in
     record {
       ls = ls;
       cs = g .first .1;
       entries = g .is;
-      marked = ltb-false _ _ (c .0);
-      stream = ltb-false _ _ (sizes .0);
-      size = ltb-false _ _ (sizes .2);
-      few = ltb-false _ _ (m .0);
-      room = ltb-false _ _ (n .0);
-      in-data = ltb-false _ _ (o .0);
-      in-text = ltb-false _ _ (q .0);
-      pool = sym (ap (λ (x : Answer (StringPool × Rooms)). given (p, v) x .0) (q .1));
-      left = sym (ap (λ (x : Answer (StringPool × Rooms)). given (p, v) x .1) (q .1));
+      marked = sizes .3;
+      stream = sizes .0;
+      size = sizes .2;
+      few = fits .0;
+      room = fits .1;
+      in-data = fits .2;
+      in-text = fits .3;
+      pool = sym (ap (λ (x : Answer (StringPool × Rooms)). given (p, v) x .0) (b .then'));
+      left = sym (ap (λ (x : Answer (StringPool × Rooms)). given (p, v) x .1) (b .then'));
     }
 
 -- ---- the entries read are small where they are free, and there are as many counts as lengths

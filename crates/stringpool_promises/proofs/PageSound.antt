@@ -4,17 +4,18 @@ use Prim.Native.Nat.{ℕ, _≤_}
 use native.Mathlib.Omega.{arith}
 use mathlib.Core.Bool.{Bool, true, false, not}
 use lib.ListN.{length}
-use lib.Dec.{ltb}
-use borrow.Author.Tests.{ltb-false, le-ltb}
+use borrow.Author.Tests.{le-ltb}
 use Rattle.common.specs.Choice.{if_then_else_}
 use Rattle.common.specs.Answers.{gives, refused, nowhere}
+use Rattle.order.specs.Order.{pageFits}
+use Rattle.order.proofs.Laws.{page-fits}
 use Rattle.stringpool.specs.Pool.{Rooms, sound, onSound}
 use Rattle.stringpool.specs.Pages.{pageAnswer}
 use Rattle.stringpool_promises.specs.Promises.{SoundState, MakesSound, PageSound}
 use Rattle.stringpool.specs.declared.pool.StringPool.{StringPool}
 use Rattle.stringpool.proofs.Sound.{SoundFit}
 use Rattle.stringpool_promises.proofs.Sounds.{fit-sound, sound-fits}
-use Rattle.stringpool_promises.proofs.Loading.{refused-gives, given}
+use Rattle.stringpool_promises.proofs.Loading.{given, gave}
 
 abbrev paged : StringPool → ℕ → StringPool
 paged p page = record { «num_strings» = p .«num_strings»; «long_string_refs» = p .«long_string_refs»; codepage = page }
@@ -25,11 +26,9 @@ page-sound p page w f h = fit-sound (paged p page) w (record { fit = f .fit; few
 
 -- an accepted page is that
 page-is : (p : StringPool) (page : ℕ) (q : StringPool) → pageAnswer p page ≡ gives q → (page ≤ 2147483647) × (paged p page ≡ q)
-page-is p page q e = go (ltb 2147483647 page) refl e
-  where
-    go : (b : Bool) → ltb 2147483647 page ≡ b → (if b then refused 21 nowhere else gives (paged p page)) ≡ gives q → (page ≤ 2147483647) × (paged p page ≡ q)
-    go true f i = absurd (refused-gives i)
-    go false f i = (ltb-false 2147483647 page f, ap (given q) i)
+page-is p page q e =
+    let a = gave (pageFits page) (λ _. gives (paged p page)) q e in
+    (page-fits page (a .is), ap (given q) (a .then'))
 
 page-state : (p : StringPool) (page : ℕ) (q : StringPool) (w : Rooms) → length (w .text) ≤ 268435455 → SoundFit p w → pageAnswer p page ≡ gives q → SoundState (record { pool = q; rooms = w })
 page-state p page q w size f e =

@@ -21,7 +21,8 @@ use Rattle.stringpool.specs.Write.{shortOf, wide, entryBytes, markOf, poolBytes
 use Rattle.stringpool.specs.inner.Write.{entriesBytes, poolStream}
 use Rattle.stringpool.specs.declared.pool.StringPool.{StringPool}
 use Rattle.stringpool.proofs.Sound.{SoundFit}
-use Rattle.stringpool.proofs.Streams.{is-narrow, is-wide, length-narrow, length-wide, pool-same, data-same}
+use Rattle.pool_stream.proofs.Writing.{is-narrow, is-wide, length-narrow, length-wide}
+use Rattle.stringpool.proofs.Streams.{pool-same, data-same}
 use Rattle.stringpool_promises.specs.Promises.{SoundState, addFound, addIn, stray, shortWide, Plain, Writes, SamePoolStream, SameDataStream}
 use Rattle.stringpool_promises.proofs.Loading.{loads-sound, View, at-end, is-cut, narrow, broad, view, refused-gives, given, gave, IsLoaded, is-loaded, bytes-drop, lengths-in, counts-in, loaded-fits}
 use Rattle.stringpool_promises.proofs.Back.{writes}

@@ -1,6 +1,6 @@
 -- Which entry the code chooses, and the judge's answer to a take.
 use Prim.Native.Nat.{ℕ, _+_, _≤_, _<_}
-use mathlib.Core.Bool.{Bool, false, not, _&&_}
+use mathlib.Core.Bool.{Bool, false}
 use mathlib.Core.Path.{_≡_}
 use mathlib.Core.List.{List, [], _∷_}
 use lib.ListN.{length, take, getD}
@@ -49,10 +49,6 @@ abbrev pub placeIn : List Entry → Chosen → ℕ
 placeIn es (Free k) = k .0
 placeIn es (Equal k) = k .0
 placeIn es Added = length es
-
--- a new entry is wanted and the pool is short with 65,535 entries or more
-abbrev pub shortFull : StringPool → Bool
-shortFull p = not (p .«long_string_refs») && 65535 ≤? p .«num_strings»
 
 -- the sizes of the text and of the text room, then soundness
 abbrev pub judgeTake : StringPool → Rooms → List ℕ → Judged

@@ -1,11 +1,27 @@
-use mathlib.Core.Path.{sym, _∙_}
+use mathlib.Core.Path.{_≡_, sym, ap, _∙_}
+use Prim.Native.Nat.{_<_}
 use native.Mathlib.Omega.{arith}
-use Rattle.stringpool.specs.Pool.{rooms}
+use Rattle.common.specs.Answers.{gives}
 use Rattle.common.proofs.Sums.{total-le}
-use Rattle.stringpool.proofs.Drop.{drop-outside, drop-past, drop-free, drop-more, drop-last}
+use Rattle.order.specs.Order.{fitsAs, dropFits}
+use Rattle.order.proofs.Laws.{drop-fits}
+use Rattle.stringpool.specs.Pool.{rooms}
+use Rattle.stringpool.specs.inner.Entries.{Fit}
+use Rattle.stringpool.specs.inner.Show.{countAt}
+use Rattle.stringpool.proofs.Drop.{drop-outside, not-dropped, drop-more, drop-last}
 use borrow.Author.Needs.{needs}
 use Rattle.stringpool.proofs.drops.drop_sound.Statement.{statement}
 use Rattle.stringpool.proofs.drops.drop_sound.Tie as tie
+
+-- the entry is there, as the order found
+fits : (c : tie.After-enum-told2)
+    → gives tt ≡ dropFits (c .before .before .before .before .before .before .before .before .before .before .args .p .«num_strings») (c .before .before .before .before .before .place2 .given .0 .0 .0) (countAt (c .before .before .before .before .before .before .before .before .before .before .args .p .«num_strings») (c .before .before .before .before .before .before .before .before .before .before .args .counts .now) (c .before .before .before .before .before .place2 .given .0 .0 .0))
+fits c =
+    sym (ap fitsAs (c .enum-told2 .given .1)) ∙ c .before .before .drop-fits .ensures
+    ∙ ap (dropFits (c .before .before .before .before .before .before .before .before .before .before .args .p .«num_strings») (c .before .before .before .before .before .place2 .given .0 .0 .0)) (c .before .before .before .count-of .ensures)
+
+there : (c : tie.After-enum-told2) → c .before .before .before .before .before .place2 .given .0 .0 .0 < c .before .before .before .before .before .before .before .before .before .before .args .p .«num_strings»
+there c = drop-fits _ _ (countAt (c .before .before .before .before .before .before .before .before .before .before .args .p .«num_strings») (c .before .before .before .before .before .before .before .before .before .before .args .counts .now) (c .before .before .before .before .before .place2 .given .0 .0 .0)) (sym (fits c)) .0
 
 place-requires : tie.Need-place-requires
 place-requires c κs = search needs
@@ -19,52 +35,62 @@ enum-told c = search needs
 returns : tie.Need-returns
 returns c = λ ts h. let s = c .before .before .before .before .before in drop-outside (s .args .p) (s .args .r .0) (rooms (s .args .lengths .now) (s .args .counts .now) ts) (sym (c .before .before .place .ensures) ∙ c .enum-told .given .1)
 
+count-of-requires : tie.Need-count-of-requires
+count-of-requires c κs = search needs
+
+drop-fits-requires : tie.Need-drop-fits-requires
+drop-fits-requires c κs = search needs
+
+enum-known-fits : tie.Need-enum-known-fits
+enum-known-fits c = search needs
+
 returns-2 : tie.Need-returns-2
 returns-2 c =
-    λ ts h. let s = c .before .before .before .before .before .before .before .before in
-    drop-past (s .args .p) (s .args .r .0) (rooms (s .args .lengths .now) (s .args .counts .now) ts)
-    (record { lengths = s .pre .0; counts = s .pre .1; text = omega (arith, s .pre .3, h) }) _ (sym (c .before .before .before .before .before .place .ensures) ∙ c .before .before .before .place2 .given .1) (c .if1 .taken)
+    λ ts h.
+    let s = c .before .before .before .before .before .before .before .before .before .before .before in
+    let w = rooms (s .args .lengths .now) (s .args .counts .now) ts in
+    let fit : Fit (s .args .p .«num_strings») w = record { lengths = s .pre .0; counts = s .pre .1; text = omega (arith, s .pre .3, h) } in
+    let at = sym (c .before .before .before .before .before .before .before .before .place .ensures) ∙ c .before .before .before .before .before .before .place2 .given .1 in
+    not-dropped (s .args .p) (s .args .r .0) w fit _ at _
+    (sym (ap fitsAs (c .before .fits2 .given .1)) ∙ c .before .before .before .drop-fits .ensures ∙ ap (dropFits (s .args .p .«num_strings») (c .before .before .before .before .before .before .place2 .given .0 .0 .0)) (c .before .before .before .before .count-of .ensures))
 
-mul-count : tie.Need-mul-count
-mul-count c = search needs
+enum-told-2 : tie.Need-enum-told-2
+enum-told-2 c = search needs
 
-shared-slice-read-count : tie.Need-shared-slice-read-count
-shared-slice-read-count c = search needs
+sub-t14 : tie.Need-sub-t14
+sub-t14 c = search needs
 
 returns-3 : tie.Need-returns-3
 returns-3 c =
-    λ ts h. let s = c .before .before .before .before .before .before .before .before .before .before in
-    drop-free (s .args .p) (s .args .r .0) (rooms (s .args .lengths .now) (s .args .counts .now) ts)
-    (record { lengths = s .pre .0; counts = s .pre .1; text = omega (arith, s .pre .3, h) }) _ (sym (c .before .before .before .before .before .before .before .place .ensures) ∙ c .before .before .before .before .before .place2 .given .1) (c .before .before .if1 .left) (c .if2 .taken)
-
-sub-t17 : tie.Need-sub-t17
-sub-t17 c = search needs
-
-returns-4 : tie.Need-returns-4
-returns-4 c =
-    λ ts h. let s = c .before .before .before .before .before .before .before .before .before .before .before in
-    drop-more (s .args .p) (s .args .r .0) (rooms (s .args .lengths .now) (s .args .counts .now) ts)
-    (record { lengths = s .pre .0; counts = s .pre .1; text = omega (arith, s .pre .3, h) }) _ (sym (c .before .before .before .before .before .before .before .before .place .ensures) ∙ c .before .before .before .before .before .before .place2 .given .1) (c .before .before .before .if1 .left) (s .pre .2) (omega (arith, c .if3 .taken))
+    λ ts h.
+    let s = c .before .before .before .before .before .before .before .before .before .before .before in
+    let w = rooms (s .args .lengths .now) (s .args .counts .now) ts in
+    let fit : Fit (s .args .p .«num_strings») w = record { lengths = s .pre .0; counts = s .pre .1; text = omega (arith, s .pre .3, h) } in
+    let at = sym (c .before .before .before .before .before .before .before .before .place .ensures) ∙ c .before .before .before .before .before .before .place2 .given .1 in
+    rw (c .before .before .before .before .count-of .ensures) (drop-more (s .args .p) (s .args .r .0) w fit _ at (fits (c .before)) (s .pre .2) (omega (arith, c .if1 .taken, c .before .before .before .before .count-of .ensures)))
 
 start-of-requires : tie.Need-start-of-requires
 start-of-requires c κs =
     let s = c .before .before .before .before .before .before .before .before .before .before .before in
-    omega (arith, s .pre, c .before .before .before .if1 .left, total-le (s .args .lengths .now) (c .before .before .before .before .before .before .place2 .given .0 .0 .0) (s .args .p .«num_strings») (omega (arith, c .before .before .before .if1 .left)))
+    omega (arith, s .pre, there (c .before), total-le (s .args .lengths .now) (c .before .before .before .before .before .before .place2 .given .0 .0 .0) (s .args .p .«num_strings») (omega (arith, there (c .before))))
 
-mul-t18 : tie.Need-mul-t18
-mul-t18 c = search needs
+mul-t16 : tie.Need-mul-t16
+mul-t16 c = omega (arith, there (c .before .before), c .before .before .before .before .before .before .before .before .before .before .before .before .pre)
 
-shared-slice-read-t20 : tie.Need-shared-slice-read-t20
-shared-slice-read-t20 c = search needs
+shared-slice-read-t18 : tie.Need-shared-slice-read-t18
+shared-slice-read-t18 c = omega (arith, there (c .before .before .before), c .before .before .before .before .before .before .before .before .before .before .before .before .before .pre)
 
-cast-t21 : tie.Need-cast-t21
-cast-t21 c = omega (arith, c .shared-slice-known4 .given (c .before .before .before .before .before .before .before .before .place2 .given .0 .0 .0))
+cast-t19 : tie.Need-cast-t19
+cast-t19 c = omega (arith, c .shared-slice-known3 .given (c .before .before .before .before .before .before .before .before .place2 .given .0 .0 .0))
 
-returns-5 : tie.Need-returns-5
-returns-5 c =
-    λ ts h. let s = c .before .before .before .before .before .before .before .before .before .before .before .before .before in
-    rw (c .before .start-of .ensures, s .pre .3) (drop-last (s .args .p) (s .args .r .0) (rooms (s .args .lengths .now) (s .args .counts .now) ts)
-    (record { lengths = s .pre .0; counts = s .pre .1; text = omega (arith, s .pre .3, h) }) _ (sym (c .before .before .before .before .before .before .before .before .before .before .place .ensures) ∙ c .before .before .before .before .before .before .before .before .place2 .given .1) (c .before .before .before .before .before .if1 .left) (s .pre .2) (omega (arith, c .before .before .before .if2 .left)) (c .before .before .if3 .left))
+returns-4 : tie.Need-returns-4
+returns-4 c =
+    λ ts h.
+    let s = c .before .before .before .before .before .before .before .before .before .before .before .before .before in
+    let w = rooms (s .args .lengths .now) (s .args .counts .now) ts in
+    let fit : Fit (s .args .p .«num_strings») w = record { lengths = s .pre .0; counts = s .pre .1; text = omega (arith, s .pre .3, h) } in
+    let at = sym (c .before .before .before .before .before .before .before .before .before .before .place .ensures) ∙ c .before .before .before .before .before .before .before .before .place2 .given .1 in
+    rw (c .before .start-of .ensures, s .pre .3) (drop-last (s .args .p) (s .args .r .0) w fit _ at (fits (c .before .before .before)) (s .pre .2) (omega (arith, c .before .before .if1 .left, c .before .before .before .before .before .before .count-of .ensures)))
 
 pub drop-sound-spec : {M : Type 1} → statement M
 drop-sound-spec =
@@ -74,14 +100,15 @@ drop-sound-spec =
     enum-known-place
     enum-told
     returns
+    count-of-requires
+    drop-fits-requires
+    enum-known-fits
     returns-2
-    mul-count
-    shared-slice-read-count
+    enum-told-2
+    sub-t14
     returns-3
-    sub-t17
-    returns-4
     start-of-requires
-    mul-t18
-    shared-slice-read-t20
-    cast-t21
-    returns-5)
+    mul-t16
+    shared-slice-read-t18
+    cast-t19
+    returns-4)

@@ -1,12 +1,31 @@
-use borrow.Author.Tests.{lt-ltb, le-ltb}
+use mathlib.Core.Path.{sym, ap, _∙_}
+use Rattle.common.specs.Answers.{Answer, gives, onGiven}
+use Rattle.order.specs.Order.{fitsAs}
+use Rattle.stringpool.specs.declared.pool.StringPool.{StringPool}
+use borrow.Author.Needs.{needs}
 use Rattle.stringpool.proofs.pages.with_page.Statement.{statement}
 use Rattle.stringpool.proofs.pages.with_page.Tie as tie
 
+-- the pool with the code page that was handed over
+abbrev Paged : tie.Start → Answer (Unit {0}) → Answer StringPool
+Paged s a =
+    onGiven a (λ _. gives (record { «num_strings» = s .args .p .«num_strings»; «long_string_refs» = s .args .p .«long_string_refs»; codepage = s .args .codepage }))
+
+page-fits-requires : tie.Need-page-fits-requires
+page-fits-requires c κs = search needs
+
+enum-known-fits : tie.Need-enum-known-fits
+enum-known-fits c = search needs
+
 returns : tie.Need-returns
-returns c = simp (lt-ltb _ _ (c .if1 .taken))
+returns c = ap (Paged (c .before .before .before .before)) (sym (ap fitsAs (c .before .fits2 .given .1)) ∙ c .before .before .before .page-fits .ensures)
+
+enum-told : tie.Need-enum-told
+enum-told c = search needs
 
 returns-2 : tie.Need-returns-2
-returns-2 c = simp (le-ltb _ _ (c .if1 .left))
+returns-2 c = ap (Paged (c .before .before .before)) (sym (ap fitsAs (c .enum-told .given .1)) ∙ c .before .before .page-fits .ensures)
 
 pub with-page-spec : {M : Type 1} → statement M
-with-page-spec = tie.close (tie.spec returns returns-2)
+with-page-spec =
+    tie.close (tie.spec page-fits-requires enum-known-fits returns enum-told returns-2)

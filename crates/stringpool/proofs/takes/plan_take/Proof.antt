@@ -21,20 +21,20 @@ enum-known-judged-2 c = search needs
 enum-known-chosen : tie.Need-enum-known-chosen
 enum-known-chosen c = search needs
 
-mul-t18 : tie.Need-mul-t18
-mul-t18 c =
+mul-t19 : tie.Need-mul-t19
+mul-t19 c =
     let s = c .before .before .before .before .before .before .before .before .before .before .before in
     let w = rooms (s .args .lengths .now) (s .args .counts .now) (s .args .text .now) in
     omega (arith, look-equal (s .args .p) w (s .args .new .now) _ _ _ _ (c .before .before .before .before .before .before .look .ensures) (c .before .before .before .before .judged2 .given .1) _ (c .before .chosen .given .1) .0, look-known (s .args .p) w (s .args .new .now) _ _ _ _ (c .before .before .before .before .before .before .look .ensures) (c .before .before .before .before .judged2 .given .1) .few)
 
-shared-slice-read-t20 : tie.Need-shared-slice-read-t20
-shared-slice-read-t20 c =
+shared-slice-read-t21 : tie.Need-shared-slice-read-t21
+shared-slice-read-t21 c =
     let s = c .before .before .before .before .before .before .before .before .before .before .before .before in
     let w = rooms (s .args .lengths .now) (s .args .counts .now) (s .args .text .now) in
     omega (arith, look-equal (s .args .p) w (s .args .new .now) _ _ _ _ (c .before .before .before .before .before .before .before .look .ensures) (c .before .before .before .before .before .judged2 .given .1) _ (c .before .before .chosen .given .1) .0, look-known (s .args .p) w (s .args .new .now) _ _ _ _ (c .before .before .before .before .before .before .before .look .ensures) (c .before .before .before .before .before .judged2 .given .1) .fit .counts)
 
-add-t21 : tie.Need-add-t21
-add-t21 c =
+add-t22 : tie.Need-add-t22
+add-t22 c =
     let s = c .before .before .before .before .before .before .before .before .before .before .before .before in
     let w = rooms (s .args .lengths .now) (s .args .counts .now) (s .args .text .now) in
     omega (arith, look-equal (s .args .p) w (s .args .new .now) _ _ _ _ (c .before .before .before .before .before .before .before .look .ensures) (c .before .before .before .before .before .judged2 .given .1) _ (c .before .before .chosen .given .1) .2)
@@ -68,11 +68,14 @@ put-free-requires c κs =
 enum-told : tie.Need-enum-told
 enum-told c = search needs
 
+entry-room-requires : tie.Need-entry-room-requires
+entry-room-requires c κs = search needs
+
 put-added-requires : tie.Need-put-added-requires
 put-added-requires c κs =
-    let s = c .before .before .before .before .before .before .before .before .before .before in
+    let s = c .before .before .before .before .before .before .before .before .before .before .before in
     let w = rooms (s .args .lengths .now) (s .args .counts .now) (s .args .text .now) in
-    let q = look-known (s .args .p) w (s .args .new .now) _ _ _ _ (c .before .before .before .before .before .look .ensures) (c .before .before .before .judged2 .given .1) in
+    let q = look-known (s .args .p) w (s .args .new .now) _ _ _ _ (c .before .before .before .before .before .before .look .ensures) (c .before .before .before .before .judged2 .given .1) in
     (omega (arith, q .sum, q .fit .text, q .large), q .small)
 
 returns : tie.Need-returns
@@ -97,10 +100,12 @@ returns-3 c =
 
 returns-4 : tie.Need-returns-4
 returns-4 c =
-    let s = c .before .before .before .before .before .before .before .before .before .before .before in
+    let s = c .before .before .before .before .before .before .before .before .before .before .before .before in
     let w = rooms (s .args .lengths .now) (s .args .counts .now) (s .args .text .now) in
-    look-taken (s .args .p) w (s .args .new .now) _ _ _ _ (c .before .before .before .before .before .before .look .ensures) (c .before .before .before .before .judged2 .given .1) _ (look-added (s .args .p) w (s .args .new .now) _ _ _ _ (c .before .before .before .before .before .before .look .ensures) (c .before .before .before .before .judged2 .given .1) (c .before .enum-told .given .1)) _
-    (c .put-added .ensures w (s .args .new .now) (look-known (s .args .p) w (s .args .new .now) _ _ _ _ (c .before .before .before .before .before .before .look .ensures) (c .before .before .before .before .judged2 .given .1)) refl refl)
+    let l = c .before .before .before .before .before .before .before .look .ensures in
+    let j = c .before .before .before .before .before .judged2 .given .1 in
+    look-taken (s .args .p) w (s .args .new .now) _ _ _ _ l j _ (look-added (s .args .p) w (s .args .new .now) _ _ _ _ l j (c .before .before .enum-told .given .1)) _
+    (c .put-added .ensures w (s .args .new .now) (look-known (s .args .p) w (s .args .new .now) _ _ _ _ l j) (c .before .entry-room .ensures))
 
 pub plan-take-spec : {M : Type 1} → statement M
 plan-take-spec =
@@ -110,15 +115,16 @@ plan-take-spec =
     enum-known-judged
     enum-known-judged-2
     enum-known-chosen
-    mul-t18
-    shared-slice-read-t20
-    add-t21
+    mul-t19
+    shared-slice-read-t21
+    add-t22
     enum-known-chosen-2
     mul-old
     shared-slice-read-old
     cast-old
     put-free-requires
     enum-told
+    entry-room-requires
     put-added-requires
     returns
     returns-2

@@ -1,62 +1,45 @@
-use Rattle.common.specs.Lists.{overAt}
-use mathlib.Core.Path.{_≡_, refl, sym, ap, _∙_}
-use Prim.Native.Nat.{ℕ, _+_, _≤_}
-use native.Mathlib.Omega.{arith}
-use mathlib.Core.List.{List}
-use lib.ListN.{length, take}
-use Rattle.stringpool.specs.Write.{markOf}
-use Rattle.stringpool.specs.inner.Write.{entriesBytes, poolStream}
-use Rattle.little_endian.specs.Numbers.{bytesOf}
-use Rattle.stringpool.proofs.Streams.{wrote, write-short, write-done, marked}
+use Rattle.stringpool.proofs.Streams.{stream-written}
 use borrow.Author.Needs.{needs}
 use Rattle.stringpool.proofs.writes.write_sound.Statement.{statement}
 use Rattle.stringpool.proofs.writes.write_sound.Tie as tie
 
-entries-size-requires : tie.Need-entries-size-requires
-entries-size-requires c κs = search needs
-
-add-size : tie.Need-add-size
-add-size c = search needs
-
-returns : tie.Need-returns
-returns c =
-    let s = c .before .before .before .before .before in
-    write-short (poolStream (s .args .p) (s .args .lengths .now) (s .args .counts .now)) (s .args .out .now) (omega (arith, c .before .entries-size .ensures, c .if1 .taken))
-
 mark-requires : tie.Need-mark-requires
 mark-requires c κs = search needs
 
-write-requires : tie.Need-write-requires
-write-requires c κs = search needs
+write-stream-requires : tie.Need-write-stream-requires
+write-stream-requires c κs = search needs
 
-write-entries-requires : tie.Need-write-entries-requires
-write-entries-requires c κs = search needs
+enum-known-written : tie.Need-enum-known-written
+enum-known-written c = search needs
+
+enum-known-written-2 : tie.Need-enum-known-written-2
+enum-known-written-2 c = search needs
 
 same-length : tie.Need-same-length
 same-length c = search needs
 
+returns : tie.Need-returns
+returns c =
+    let s = c .before .before .before .before .before .before .before .before .before .before .before in
+    stream-written (s .args .p) (s .args .lengths .now) (s .args .counts .now) (s .args .out .now) (s .pre .0) (s .pre .1) (s .pre .2) (c .before .before .before .before .before .before .before .mark .ensures) (c .before .written .given .1) (c .before .before .before .before .before .write-stream .ensures)
+
+same-length-2 : tie.Need-same-length-2
+same-length-2 c = search needs
+
 returns-2 : tie.Need-returns-2
 returns-2 c =
-    let s = c .before .before .before .before .before .before .before .before .before .before .before .before .before .before in
-    let p = s .args .p in
-    let o : List ℕ = s .args .out .now in
-    let n : ℕ = p .«num_strings» in
-    let E : List ℕ = entriesBytes (take n (s .args .lengths .now)) (take n (s .args .counts .now)) in
-    let S : List ℕ = poolStream p (s .args .lengths .now) (s .args .counts .now) in
-    let l : length S ≡ 4 + length E = omega arith in
-    let room : length S ≤ length o = omega (arith, c .before .before .before .before .before .before .before .before .before .before .entries-size .ensures, c .before .before .before .before .before .before .before .before .before .if1 .left) in
-    write-done S o _ _ room (ap (λ (k : ℕ). 4 + k) (c .before .before .before .before .before .before .before .before .before .before .entries-size .ensures .0) ∙ sym l)
-    (marked (bytesOf 4 (markOf p)) E o _ _ refl (omega arith) (wrote (c .before .before .before .before .before .before .before .before .mark .result) 4 o 0 (omega arith) (c .before .before .before .before .before .before .write .ensures) ∙ ap (λ (x : ℕ). overAt 0 (bytesOf 4 x) o) (c .before .before .before .before .before .before .before .before .mark .ensures)) (c .before .before .write-entries .ensures))
+    let s = c .before .before .before .before .before .before .before .before .before .before .before in
+    stream-written (s .args .p) (s .args .lengths .now) (s .args .counts .now) (s .args .out .now) (s .pre .0) (s .pre .1) (s .pre .2) (c .before .before .before .before .before .before .before .mark .ensures) (c .before .written2 .given .1) (c .before .before .before .before .before .write-stream .ensures)
 
 pub write-sound-spec : {M : Type 1} → statement M
 write-sound-spec =
     tie.close
     (tie.spec
-    entries-size-requires
-    add-size
-    returns
     mark-requires
-    write-requires
-    write-entries-requires
+    write-stream-requires
+    enum-known-written
+    enum-known-written-2
     same-length
+    returns
+    same-length-2
     returns-2)

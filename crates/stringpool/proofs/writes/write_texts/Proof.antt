@@ -4,7 +4,7 @@ use Prim.Native.Nat.{ℕ}
 use native.Mathlib.Omega.{arith}
 use lib.ListN.{length, take}
 use lib.Seq.{length-take-le}
-use Rattle.stringpool.proofs.Streams.{write-short, write-done}
+use Rattle.pool_stream.proofs.Writing.{write-short, write-done}
 use borrow.Author.Needs.{needs}
 use Rattle.stringpool.proofs.writes.write_texts.Statement.{statement}
 use Rattle.stringpool.proofs.writes.write_texts.Tie as tie

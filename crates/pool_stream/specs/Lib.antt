@@ -1,0 +1,4 @@
+pub mod Entries
+pub mod Plan
+pub mod Write
+pub mod inner

@@ -17,3 +17,5 @@ pub use crate::numbers::signed;
 pub use crate::numbers::units;
 pub use crate::numbers::words;
 pub use crate::pools::entries;
+pub use crate::pools::pool;
+pub use crate::pools::rooms;

@@ -31,25 +31,9 @@ fn one(num_strings: usize, count: u16) -> Lent {
     }
 }
 
-fn length(n: u32) {
-    show::words(b" ");
-    show::number(n as u64);
-}
-
-fn count(n: u16) {
-    show::words(b" ");
-    show::number(n as u64);
-}
-
-fn rooms(lengths: &[u32; 2], counts: &[u16; 2], text: &[u8]) {
-    show::words(b", lengths");
-    length(lengths[0]);
-    length(lengths[1]);
-    show::words(b", counts");
-    count(counts[0]);
-    count(counts[1]);
-    show::words(b", text");
-    show::bytes(text);
+fn rooms(lengths: &[u32], counts: &[u16], text: &[u8]) {
+    show::words(b", ");
+    show::rooms(lengths, counts, text);
     show::newline();
 }
 

@@ -1,6 +1,6 @@
 -- The columns of a layout, and the laws of its arrays. Assumes nothing.
 use mathlib.Core.Path.{_≡_, refl, sym, _∙_, ap}
-use mathlib.Core.Bool.{Bool, true, false, _&&_}
+use mathlib.Core.Bool.{Bool, true, false}
 use mathlib.Core.List.{List, [], _∷_, map}
 use Prim.Native.Nat.{ℕ, zero, suc, _+_, _*_, _<_, _≤_}
 use native.Mathlib.Nat.{mul-le-mul-right, suc-mul, not-suc-le-zero, le-of-suc-le-suc, add-zero, zero-add}
@@ -174,7 +174,3 @@ over-set x xs (y ∷ l) (suc c) h = rw add-one (ap (λ (r : List _). y ∷ r) (r
 -- what the form of a column says of it
 pub form-said : (c : ℕ) (x : Column) (long : Bool) → refusalOf (formAnswer c (x .coltype) long) ≡ refusalOf (soundColumn c x)
 form-said c x long = given-refusal (soundType c (x .coltype)) (λ u. formFor u long) ∙ sym (given-refusal (soundType c (x .coltype)) (λ u. x))
-
-pub and-no : (a : Bool) → (a && false) ≡ false
-and-no true = refl
-and-no false = refl

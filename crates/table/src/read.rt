@@ -10,6 +10,8 @@ use common::Refusal;
 use common::sizes::MAX_BYTES;
 use common::sizes::MAX_COLUMNS;
 use common::sizes::MAX_ROWS;
+use order::Fits;
+use order::cell_fits;
 use value::ValueRef;
 ghost use mathlib.Core.Path.{_≡_};
 ghost use mathlib.Core.List.{map};
@@ -65,11 +67,9 @@ impl Table {
         match counted {
             Counted::Refused(refusal) => CellRead::Refused(refusal),
             Counted::Count(rows) => {
-                if rows <= row {
-                    return CellRead::Refused(Refusal::OutsideTable);
-                }
-                if self.count <= column {
-                    return CellRead::Refused(Refusal::OutsideTable);
+                let fits = cell_fits(rows, self.count, row, column);
+                if let Fits::Refused(refusal) = fits {
+                    return CellRead::Refused(refusal);
                 }
                 CellRead::Value(cell_in(self, rows, row, column, stream))
             }

@@ -8,7 +8,8 @@ use column::CellForm;
 use column::Stored;
 use common::Refusal;
 use common::sizes::MAX_COLUMNS;
-use common::sizes::MAX_ROWS;
+use order::Fits;
+use order::bulk_fits;
 use value::Cell;
 ghost use mathlib.Core.Path.{_≡_};
 ghost use Prim.Native.Nat.{_+_, _*_, _<_, _≤_};
@@ -34,15 +35,9 @@ impl Table {
         if let Verdict::Refused(refusal) = verdict {
             return Counted::Refused(refusal);
         }
-        if MAX_ROWS < rows {
-            return Counted::Refused(Refusal::TooManyRows);
-        }
-        let cells = rows * self.count;
-        if kinds.len() != cells {
-            return Counted::Refused(Refusal::CellCount);
-        }
-        if numbers.len() != cells {
-            return Counted::Refused(Refusal::CellCount);
+        let fits = bulk_fits(rows, self.count as u32, kinds.len(), numbers.len());
+        if let Fits::Refused(refusal) = fits {
+            return Counted::Refused(refusal);
         }
         let judged = judge_columns(self, rows, kinds, numbers);
         if let Verdict::Refused(refusal) = judged {

@@ -29,10 +29,13 @@ use Rattle.table.specs.Reading.{rowsFound, numRowsAnswer, readRowsOutcome}
 use Rattle.table.specs.Writing.{Cells, cellBytes, columnBytes, tableBytes, writeRowsOutcome}
 use Rattle.table.specs.inner.Layout.{Sound}
 use Rattle.table.specs.inner.Columns.{givenBytes, plain}
-use Rattle.table.proofs.Each.{given-refusal, fine-first, all-given}
-use Rattle.table.proofs.Layouts.{next-le, types-count, columns-passed, judged-sound, size-le}
+use Rattle.cells.proofs.Each.{given-refusal, fine-first}
+use Rattle.cells.proofs.Strides.{next-le}
+use Rattle.cells_read.proofs.Parts.{part-number}
+use Rattle.table.proofs.Plain.{all-given}
+use Rattle.table.proofs.Layouts.{types-count, columns-passed, judged-sound, size-le}
 use Rattle.table.proofs.Grid.{length-grid, grid-same}
-use Rattle.table.proofs.Column.{part-number, column-length, columns-length, table-judged, table-given, table-length}
+use Rattle.table.proofs.Column.{column-length, columns-length, table-judged, table-given, table-length}
 use Rattle.table_promises.specs.Promises.{readsAs, handedBack, WriteThenRead}
 use Rattle.table_promises.proofs.Cells.{cell-read-back, stored-fits}
 use Rattle.table_promises.proofs.Agree.{read-is}

@@ -2,7 +2,7 @@
 use Prim.Native.Nat.{ℕ, _*_}
 use mathlib.Core.Bool.{Bool, not, _&&_, _||_}
 use Rattle.common.specs.Choice.{if_then_else_, _<?_, _≤?_, _=?_}
-use Rattle.common.specs.Sizes.{maxBytes, maxEntries, maxCodepage, maxRows}
+use Rattle.common.specs.Sizes.{maxBytes, maxEntries, maxCodepage}
 use Rattle.common.specs.Answers.{Answer, gives, refused, nowhere}
 use Rattle.common.specs.Refusals.{refusedBy}
 use Rattle.order.specs.declared.Fits.{Fits}
@@ -51,10 +51,10 @@ dropFits n place count =
 abbrev pub cellFits : ℕ → ℕ → ℕ → ℕ → Answer (Unit {0})
 cellFits rows columns r c = if r <? rows && c <? columns then gives tt else refused 15 nowhere
 
--- "kinds or numbers handed over not rows times columns"
-abbrev pub bulkFits : ℕ → ℕ → ℕ → ℕ → Answer (Unit {0})
-bulkFits rows columns kinds numbers =
-    if maxRows <? rows then refused 14 nowhere
+-- "kinds or numbers handed over not rows times columns"; at most `most` rows
+abbrev pub bulkFits : ℕ → ℕ → ℕ → ℕ → ℕ → Answer (Unit {0})
+bulkFits most rows columns kinds numbers =
+    if most <? rows then refused 14 nowhere
     else if not (kinds =? rows * columns && numbers =? rows * columns) then refused 23 nowhere
     else gives tt
 

@@ -3,6 +3,7 @@ use crate::Fits;
 use common::Refusal;
 use common::sizes::MAX_ROWS;
 ghost use mathlib.Core.Path.{_≡_};
+ghost use Rattle.common.specs.Sizes.{maxRows};
 ghost use Rattle.order.specs.Order.{fitsAs, bulkFits, cellFits};
 
 // A cell at a row and a column of a table.
@@ -20,7 +21,7 @@ pub fn cell_fits(rows: usize, columns: usize, row: usize, column: usize) -> Fits
 
 // Cells handed over in bulk. The product fits: there are at most 65,536 rows.
 pub fn bulk_fits(rows: usize, columns: u32, kinds: usize, numbers: usize) -> Fits
-    ensures { λ r. ⌜ fitsAs r ≡ bulkFits rows columns kinds numbers ⌝ }
+    ensures { λ r. ⌜ fitsAs r ≡ bulkFits maxRows rows columns kinds numbers ⌝ }
 {
     if rows > MAX_ROWS {
         return Fits::Refused(Refusal::TooManyRows);

@@ -6,8 +6,9 @@ use Prim.Native.Nat.{ℕ, _*_, _/_, _<_, _≤_}
 use native.Mathlib.Nat.{div-mul-le-self, zero-mul}
 use native.Mathlib.Omega.{arith}
 use lib.Dec.{ltb, eqb}
-use borrow.Author.Tests.{lt-ltb, le-ltb, ltb-false, eq-eqb, ne-eqb}
+use borrow.Author.Tests.{lt-ltb, le-ltb, ltb-false}
 use lib.ListN.{length}
+use Rattle.order.specs.Order.{bulkFits}
 use Rattle.common.specs.Choice.{if_then_else_}
 use Rattle.common.specs.Lists.{_over_}
 use Rattle.common.specs.Answers.{Place, nowhere, Answer, gives, refused, onGiven, refusalOf}
@@ -20,7 +21,7 @@ use Rattle.table.specs.Reading.{numRowsAnswer}
 use Rattle.table.specs.Writing.{Cells, columnBytes, tableBytes, writtenRows}
 use Rattle.table.specs.inner.Layout.{Sound}
 use Rattle.table.specs.inner.Columns.{plain}
-use Rattle.table.proofs.Each.{refused-is}
+use Rattle.cells.proofs.Each.{refused-is}
 use Rattle.table.proofs.Layouts.{judged-sound}
 use Rattle.table.proofs.Column.{table-given, table-length}
 
@@ -65,50 +66,26 @@ module _ (ts : List ColumnType) (long : Bool) (rows : ℕ) (cells : Cells) (out 
   abbrev bytes : List ℕ
   bytes = plain (columnBytes ts long rows cells) 0 (length ts)
 
-  pub many-rows : 65536 < rows → answer ≡ refused 14 nowhere
-  many-rows h = rw (lt-ltb 65536 rows h)
+  abbrev order : Answer (Unit {0})
+  order = bulkFits 65536 rows (length ts) (length (cells .kinds)) (length (cells .numbers))
 
-  module _ (few : rows ≤ 65536) where
-    pub wrong-kinds : (length (cells .kinds) ≡ rows * length ts → ⊥) → answer ≡ refused 23 nowhere
-    wrong-kinds h = rw (le-ltb 65536 rows few, ne-eqb (length (cells .kinds)) (rows * length ts) h)
+  pub not-fit : (m : ℕ) (at : Place) → refused m at ≡ order → answer ≡ refused m at
+  not-fit m at e = rw (sym e)
 
-    module _ (k : length (cells .kinds) ≡ rows * length ts) where
-      pub wrong-numbers : (length (cells .numbers) ≡ rows * length ts → ⊥) → answer ≡ refused 23 nowhere
-      wrong-numbers h = rw (le-ltb 65536 rows few, eq-eqb (length (cells .kinds)) (rows * length ts) k, ne-eqb (length (cells .numbers)) (rows * length ts) h)
+  module _ (fit : gives tt ≡ order) where
+    pub bad-cell : (m : ℕ) (at : Place) → refused m at ≡ refusalOf (tableBytes ts long rows cells) → answer ≡ refused m at
+    bad-cell m at e = rw (sym fit, refused-is (tableBytes ts long rows cells) m at (sym e))
 
-      module _ (n : length (cells .numbers) ≡ rows * length ts) where
-        pub bad-cell : (m : ℕ) (at : Place) → refused m at ≡ refusalOf (tableBytes ts long rows cells) → answer ≡ refused m at
-        bad-cell m at e =
-            rw (
-              le-ltb 65536 rows few,
-              eq-eqb (length (cells .kinds)) (rows * length ts) k,
-              eq-eqb (length (cells .numbers)) (rows * length ts) n,
-              refused-is (tableBytes ts long rows cells) m at (sym e),
-            )
+    module _ (fine : gives tt ≡ refusalOf (tableBytes ts long rows cells)) where
+      pub no-room : length out < rows * rowSize ts long → answer ≡ refused 7 nowhere
+      no-room h =
+          let l = table-length ts long rows cells (sym fine) in
+          rw (sym fit, table-given ts long rows cells (sym fine), lt-ltb (length out) (length bytes) (omega arith))
 
-        module _ (fine : gives tt ≡ refusalOf (tableBytes ts long rows cells)) where
-          pub no-room : length out < rows * rowSize ts long → answer ≡ refused 7 nowhere
-          no-room h =
-              let l = table-length ts long rows cells (sym fine) in
-              rw (
-                le-ltb 65536 rows few,
-                eq-eqb (length (cells .kinds)) (rows * length ts) k,
-                eq-eqb (length (cells .numbers)) (rows * length ts) n,
-                table-given ts long rows cells (sym fine),
-                lt-ltb (length out) (length bytes) (omega arith),
-              )
-
-          pub written : rows * rowSize ts long ≤ length out → answer ≡ gives (rows * rowSize ts long, bytes over out)
-          written h =
-              let l = table-length ts long rows cells (sym fine) in
-              rw (
-                le-ltb 65536 rows few,
-                eq-eqb (length (cells .kinds)) (rows * length ts) k,
-                eq-eqb (length (cells .numbers)) (rows * length ts) n,
-                table-given ts long rows cells (sym fine),
-                le-ltb (length out) (length bytes) (omega arith),
-                l,
-              )
+      pub written : rows * rowSize ts long ≤ length out → answer ≡ gives (rows * rowSize ts long, bytes over out)
+      written h =
+          let l = table-length ts long rows cells (sym fine) in
+          rw (sym fit, table-given ts long rows cells (sym fine), le-ltb (length out) (length bytes) (omega arith), l)
 
 -- the same number given, and the same bytes left
 pub given-same : {m n : ℕ} {x y : List ℕ} → m ≡ n → x ≡ y → _≡_ {A = Answer ℕ × List ℕ} (gives m, x) (gives n, y)

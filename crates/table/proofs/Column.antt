@@ -3,54 +3,53 @@ use mathlib.Core.Path.{_≡_, refl, sym, _∙_, ap}
 use mathlib.Core.Bool.{Bool}
 use mathlib.Core.List.{List, [], _∷_}
 use Prim.Native.Nat.{ℕ, zero, suc, _+_, _*_, _<_, _≤_}
-use native.Mathlib.Nat.{add-mul, mul-add, mul-zero, add-zero, mul-le-mul-left, not-suc-le-zero, le-of-suc-le-suc}
+use native.Mathlib.Nat.{add-mul, mul-add, mul-zero, mul-le-mul-left, not-suc-le-zero, le-of-suc-le-suc}
 use native.Mathlib.Numerals.{add-one}
 use native.Mathlib.Omega.{arith}
-use lib.IntN.{ℤ, pos}
-use lib.ListN.{length, getD, take, drop, length-append}
-use lib.Seq.{take-all, getD-take, getD-drop}
+use lib.IntN.{pos}
+use lib.ListN.{length, getD, take, length-append}
+use lib.Seq.{take-all}
 use Rattle.common.specs.Lists.{joined, from}
-use Rattle.common.specs.Answers.{Answer, gives, refused, cell, each, refusalOf}
-use Rattle.little_endian.specs.Numbers.{bytesOf, numberAt as numberIn}
+use Rattle.common.specs.Answers.{Answer, gives, refused, cell, onGiven, each, refusalOf}
+use Rattle.little_endian.specs.Numbers.{bytesOf}
 use Rattle.little_endian.proofs.Laws.{length-bytes}
 use Rattle.value.specs.Handed.{cellOf}
 use Rattle.column.specs.declared.column.ColumnType.{ColumnType}
 use Rattle.column.specs.declared.form.CellForm.{CellForm}
-use Rattle.column.specs.Cells.{width, stored}
-use Rattle.column.specs.Forms.{formFor, typeIn, longIn, plainNumber}
+use Rattle.column.specs.Cells.{width}
+use Rattle.column.specs.Forms.{formFor, plainNumber}
 use Rattle.column.proofs.Cells.{form-width, form-stored, form-unstored}
 use Rattle.column.proofs.Numbers.{fine-number}
-use Rattle.table.specs.declared.layout.Stride.{Stride}
+use Rattle.cells.specs.declared.stride.Stride.{Stride}
+use Rattle.cells.specs.Strides.{placeIn, formWidth}
+use Rattle.cells.specs.Judging.{cellNumber}
+use Rattle.cells.specs.Writing.{plainBytes, bytesFrom}
+use Rattle.cells_read.specs.Reading.{formCell}
 use Rattle.table.specs.Rows.{rowSize, typeAt, cellAt}
 use Rattle.table.specs.Writing.{Cells, cellBytes, columnBytes, tableBytes}
-use Rattle.table.specs.inner.Columns.{formWidth, givenBytes, formBytes, plain, formCell}
-use Rattle.table.proofs.Each.{given-refusal, each-same, all-given, plain-length, fine-first}
+use Rattle.table.specs.inner.Columns.{givenBytes, plain}
+use Rattle.cells.proofs.Each.{given-refusal, each-same, each-made, fine-first}
+use Rattle.table.proofs.Plain.{all-given, plain-length, plain-same}
 use Rattle.table.proofs.Layouts.{column-in}
 
--- the cell at a row
+-- the bytes of the cell at a row, by the form of its column
+abbrev formBytes : CellForm → Cells → Stride → ℕ → Answer (List ℕ)
+formBytes f cells run r = onGiven (cellNumber f (cells .kinds) (cells .numbers) run r) (λ n. gives (bytesOf (formWidth f) n))
+
 module _ (f : CellForm) (cells : Cells) (run : Stride) (r : ℕ) where
-  abbrev kindAt : ℕ
-  kindAt = getD (cells .kinds) (r * run .step + run .column) 0
-
-  abbrev numberAt : ℤ
-  numberAt = getD (cells .numbers) (r * run .step + run .column) (pos 0)
-
-  pub judged-cell : refusalOf (formBytes f cells run r) ≡ refusalOf (stored (typeIn f) (longIn f) (cell r (run .column)) kindAt numberAt)
-  judged-cell = given-refusal (stored (typeIn f) (longIn f) (cell r (run .column)) kindAt numberAt) (λ n. bytesOf (formWidth f) n)
-
-  bytes-of : (a : Answer ℕ) → stored (typeIn f) (longIn f) (cell r (run .column)) kindAt numberAt ≡ a → refusalOf a ≡ gives tt
-      → givenBytes (formBytes f cells run r) ≡ bytesOf (formWidth f) (plainNumber f (cellOf kindAt numberAt))
-  bytes-of (gives n) e h = rw (e, fine-number f (cell r (run .column)) kindAt numberAt n e)
+  bytes-of : (a : Answer ℕ) → cellNumber f (cells .kinds) (cells .numbers) run r ≡ a → refusalOf (onGiven a (λ n. gives (bytesOf (formWidth f) n))) ≡ gives tt
+      → givenBytes (onGiven a (λ n. gives (bytesOf (formWidth f) n))) ≡ plainBytes f (cells .kinds) (cells .numbers) run r
+  bytes-of (gives n) e h = rw (fine-number f (cell r (run .column)) (getD (cells .kinds) (placeIn run r) 0) (getD (cells .numbers) (placeIn run r) (pos 0)) n e)
   bytes-of (refused n at) e h = absurd (let y : _≡_ {A = ℕ} 0 1 = cc in omega arith)
 
-  pub fine-bytes : refusalOf (formBytes f cells run r) ≡ gives tt → givenBytes (formBytes f cells run r) ≡ bytesOf (formWidth f) (plainNumber f (cellOf kindAt numberAt))
-  fine-bytes h = bytes-of (stored (typeIn f) (longIn f) (cell r (run .column)) kindAt numberAt) refl (sym judged-cell ∙ h)
+  fine-bytes : refusalOf (formBytes f cells run r) ≡ gives tt → givenBytes (formBytes f cells run r) ≡ plainBytes f (cells .kinds) (cells .numbers) run r
+  fine-bytes h = bytes-of (cellNumber f (cells .kinds) (cells .numbers) run r) refl h
 
-  pub fine-length : refusalOf (formBytes f cells run r) ≡ gives tt → length (givenBytes (formBytes f cells run r)) ≡ formWidth f
-  fine-length h = ap length (fine-bytes h) ∙ length-bytes (formWidth f) (plainNumber f (cellOf kindAt numberAt))
+  fine-length : refusalOf (formBytes f cells run r) ≡ gives tt → length (givenBytes (formBytes f cells run r)) ≡ formWidth f
+  fine-length h = ap length (fine-bytes h) ∙ length-bytes (formWidth f) (plainNumber f (cellOf (getD (cells .kinds) (placeIn run r) 0) (getD (cells .numbers) (placeIn run r) (pos 0))))
 
 -- the cells of a column are those of its form
-pub form-bytes : (t : ColumnType) (long : Bool) (cells : Cells) (run : Stride) (r : ℕ) → formBytes (formFor t long) cells run r ≡ cellBytes t long (run .step) cells (run .column) r
+form-bytes : (t : ColumnType) (long : Bool) (cells : Cells) (run : Stride) (r : ℕ) → formBytes (formFor t long) cells run r ≡ cellBytes t long (run .step) cells (run .column) r
 form-bytes t long cells run r =
     let i = r * run .step + run .column in
     rw (form-width long t, form-stored long t (cell r (run .column)) (getD (cells .kinds) i 0) (getD (cells .numbers) i (pos 0)))
@@ -67,21 +66,26 @@ module _ (ts : List ColumnType) (long : Bool) (rows : ℕ) (cells : Cells) (c : 
   each-form : each (formBytes form cells run) (from 0 rows) ≡ each (cellBytes (typeAt ts c) long (length ts) cells c) (from 0 rows)
   each-form = each-same (formBytes form cells run) (cellBytes (typeAt ts c) long (length ts) cells c) (from 0 rows) (λ r. form-bytes (typeAt ts c) long cells run r)
 
-  pub column-judged : refusalOf (columnBytes ts long rows cells c) ≡ refusalOf (each (formBytes form cells run) (from 0 rows))
-  column-judged = given-refusal (each (cellBytes (typeAt ts c) long (length ts) cells c) (from 0 rows)) (λ bytes. joined bytes) ∙ ap refusalOf (sym each-form)
+  each-judged : refusalOf (columnBytes ts long rows cells c) ≡ refusalOf (each (formBytes form cells run) (from 0 rows))
+  each-judged = given-refusal (each (cellBytes (typeAt ts c) long (length ts) cells c) (from 0 rows)) (λ bytes. joined bytes) ∙ ap refusalOf (sym each-form)
 
-  pub column-given : refusalOf (columnBytes ts long rows cells c) ≡ gives tt → columnBytes ts long rows cells c ≡ gives (plain (formBytes form cells run) 0 rows)
+  pub column-judged : refusalOf (columnBytes ts long rows cells c) ≡ refusalOf (each (cellNumber form (cells .kinds) (cells .numbers) run) (from 0 rows))
+  column-judged = each-judged ∙ each-made (cellNumber form (cells .kinds) (cells .numbers) run) (bytesOf (formWidth form)) (from 0 rows)
+
+  column-given : refusalOf (columnBytes ts long rows cells c) ≡ gives tt → columnBytes ts long rows cells c ≡ gives (plain (formBytes form cells run) 0 rows)
   column-given h =
-      let e = all-given (formBytes form cells run) (from 0 rows) (sym column-judged ∙ h) in
+      let e = all-given (formBytes form cells run) (from 0 rows) (sym each-judged ∙ h) in
       rw (← each-form, e)
 
-  pub column-bytes : refusalOf (columnBytes ts long rows cells c) ≡ gives tt → givenBytes (columnBytes ts long rows cells c) ≡ plain (formBytes form cells run) 0 rows
-  column-bytes h = ap givenBytes (column-given h)
+  pub column-bytes : refusalOf (columnBytes ts long rows cells c) ≡ gives tt → givenBytes (columnBytes ts long rows cells c) ≡ bytesFrom (plainBytes form (cells .kinds) (cells .numbers) run) 0 rows
+  column-bytes h =
+      ap givenBytes (column-given h)
+      ∙ plain-same (formBytes form cells run) (plainBytes form (cells .kinds) (cells .numbers) run) 0 rows (λ r. fine-bytes form cells run r) (sym each-judged ∙ h)
 
   pub column-length : refusalOf (columnBytes ts long rows cells c) ≡ gives tt → length (givenBytes (columnBytes ts long rows cells c)) ≡ rows * width (typeAt ts c) long
   column-length h =
-      ap length (column-bytes h)
-      ∙ plain-length (formBytes form cells run) (formWidth form) 0 rows (λ r. fine-length form cells run r) (sym column-judged ∙ h)
+      ap length (ap givenBytes (column-given h))
+      ∙ plain-length (formBytes form cells run) (formWidth form) 0 rows (λ r. fine-length form cells run r) (sym each-judged ∙ h)
       ∙ ap (λ (w : ℕ). rows * w) (sym (form-width long (typeAt ts c)))
 
 -- ---- all columns
@@ -123,16 +127,6 @@ pub column-within : (ts : List ColumnType) (long : Bool) (rows c : ℕ) → c < 
 column-within ts long rows c h = rw mul-add at (mul-le-mul-left rows (column-in long ts c h))
 
 -- ---- reading
-
-pub part-number : (w k : ℕ) (s : List ℕ) (at i : ℕ) → i + w ≤ k → numberIn w (take k (drop at s)) i ≡ numberIn w s (at + i)
-part-number zero k s at i h = refl
-part-number (suc w) k s at i h =
-    let e : at + suc i ≡ suc (at + i) = omega arith in
-    rw (getD-take k (drop at s) i 0 (omega arith), getD-drop, part-number w k s at (suc i) (omega arith), e)
-
--- a cell read from its own bytes
-pub cell-part : (f : CellForm) (s : List ℕ) (at k : ℕ) → formWidth f ≤ k → numberIn (formWidth f) (take k (drop at s)) 0 ≡ numberIn (formWidth f) s at
-cell-part f s at k h = part-number (formWidth f) k s at 0 (omega arith) ∙ ap (numberIn (formWidth f) s) (add-zero at)
 
 -- the cell of a row, counted from `first` on, of a column that is read from there
 pub form-cell : (ts : List ColumnType) (long : Bool) (rows first : ℕ) (s : List ℕ) (r c : ℕ)

@@ -13,9 +13,10 @@ use Rattle.common.proofs.Parts.{over-all, exact-over}
 use Rattle.common.proofs.Writing.{Writing, begin, rooms, steps-front, done-front}
 use Rattle.column.proofs.Halves.{lt-or-le}
 use Rattle.table.specs.Rows.{rowByRow}
-use Rattle.table.specs.inner.Columns.{strided, rowsFrom}
-use Rattle.table.proofs.Each.{from-next, from-done, length-from}
-use Rattle.table.proofs.Layouts.{next-le}
+use Rattle.cells_read.specs.Reading.{strided}
+use Rattle.table.specs.inner.Columns.{rowsFrom}
+use Rattle.cells.proofs.Each.{from-done, length-from}
+use Rattle.cells.proofs.Strides.{next-le}
 
 -- ---- n of them from k on
 
@@ -97,14 +98,6 @@ module _ {A : Type 0} where
   strided-at i step (v ∷ vs) l (suc r) d p h k =
       let e : i + suc r * step ≡ i + step + r * step = omega (arith, suc-mul r step) in
       rw e (strided-at (i + step) step vs (set l i v) r d p (le-of-suc-le-suc h) (rw length-set (omega arith)))
-
-  -- one row more of a column, and its end
-  pub stride-turn : (g : ℕ → A) (i step row rows : ℕ) (l : List A) → row < rows
-      → strided (i + step) step (map g (from (row + 1) (rows - (row + 1)))) (set l i (g row)) ≡ strided i step (map g (from row (rows - row))) l
-  stride-turn g i step row rows l h = rw (from-next row rows h)
-
-  pub stride-done : (g : ℕ → A) (i step row rows : ℕ) (l : List A) → rows ≤ row → strided i step (map g (from row (rows - row))) l ≡ l
-  stride-done g i step row rows l h = rw (from-done row rows h)
 
 -- ---- a table of rows, whose columns before c are right
 

@@ -1,9 +1,9 @@
 -- The columns of a layout, and the laws of its arrays. Assumes nothing.
 use mathlib.Core.Path.{_≡_, refl, sym, _∙_, ap}
-use mathlib.Core.Bool.{Bool, true, false, _&&_}
+use mathlib.Core.Bool.{Bool, true, false}
 use mathlib.Core.List.{List, [], _∷_, map}
 use Prim.Native.Nat.{ℕ, zero, suc, _+_, _*_, _<_, _≤_}
-use native.Mathlib.Nat.{mul-le-mul-right, suc-mul, not-suc-le-zero, le-of-suc-le-suc, add-zero, zero-add}
+use native.Mathlib.Nat.{not-suc-le-zero, le-of-suc-le-suc, add-zero, zero-add}
 use native.Mathlib.Numerals.{add-one}
 use native.Mathlib.Omega.{arith}
 use lib.Dec.{ltb}
@@ -25,14 +25,7 @@ use Rattle.table.specs.declared.layout.Table.{Table}
 use Rattle.table.specs.Layout.{columnsOf, typesOf, eachAt, soundColumn, soundColumns, onColumns}
 use Rattle.table.specs.Rows.{rowSize, typeAt}
 use Rattle.table.specs.inner.Layout.{Sound, widthsOf, startsFrom, zeros, layoutOf}
-use Rattle.table.proofs.Each.{given-refusal, after-given, after-refused}
-
--- the next multiple, within as many
-pub next-le : (i n k : ℕ) → i < n → i * k + k ≤ n * k
-next-le i n k h = omega (arith, mul-le-mul-right {m = suc i} {n = n} k h, suc-mul i k)
-
-pub next-is : (i k : ℕ) → (i + 1) * k ≡ i * k + k
-next-is i k = rw add-one (suc-mul i k)
+use Rattle.cells.proofs.Each.{given-refusal, after-given, after-refused}
 
 -- ---- columns
 
@@ -174,7 +167,3 @@ over-set x xs (y ∷ l) (suc c) h = rw add-one (ap (λ (r : List _). y ∷ r) (r
 -- what the form of a column says of it
 pub form-said : (c : ℕ) (x : Column) (long : Bool) → refusalOf (formAnswer c (x .coltype) long) ≡ refusalOf (soundColumn c x)
 form-said c x long = given-refusal (soundType c (x .coltype)) (λ u. formFor u long) ∙ sym (given-refusal (soundType c (x .coltype)) (λ u. x))
-
-pub and-no : (a : Bool) → (a && false) ≡ false
-and-no true = refl
-and-no false = refl

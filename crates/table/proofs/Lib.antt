@@ -1,7 +1,6 @@
-pub mod Each
+pub mod Plain
 pub mod Layouts
 pub mod Grid
 pub mod Column
 pub mod Answers
 pub mod Bits
-pub mod Limits

@@ -1,6 +1,6 @@
 -- Document 01, "Rows": cells read by their place and in bulk.
 use Prim.Native.Nat.{ℕ, _*_}
-use mathlib.Core.Bool.{_&&_, _||_}
+use mathlib.Core.Bool.{_||_}
 use mathlib.Core.List.{List}
 use lib.IntN.{ℤ}
 use lib.ListN.{length}
@@ -9,6 +9,7 @@ use Rattle.common.specs.Sizes.{maxBytes, maxRows}
 use Rattle.common.specs.Lists.{_over_}
 use Rattle.common.specs.Answers.{Answer, gives, refused, nowhere, onGiven, outcome}
 use Rattle.common.specs.Refusals.{refusedBy}
+use Rattle.order.specs.Order.{cellFits}
 use Rattle.value.specs.Kinds.{cellAs}
 use Rattle.table.specs.declared.layout.Table.{Table}
 use Rattle.table.specs.declared.layout.Counted.{Counted}
@@ -32,7 +33,7 @@ numRowsAnswer t s = if maxBytes <? length s then refused 22 nowhere else onColum
 abbrev pub readCellAnswer : Table → List ℕ → ℕ → ℕ → Answer (ℕ × ℤ)
 readCellAnswer t s r c =
     onGiven (numRowsAnswer t s)
-    (λ rows. if r <? rows && c <? t .count then gives (cellAt (typesOf t) (t .«long_string_refs») rows s r c) else refused 15 nowhere)
+    (λ rows. onGiven (cellFits rows (t .count) r c) (λ x. gives (cellAt (typesOf t) (t .«long_string_refs») rows s r c)))
 
 -- `read_rows`: then 7 where either output has no room for all cells; "output past the result is untouched"
 abbrev pub readRowsAnswer : Table → List ℕ → List ℕ → List ℤ → Answer (ℕ × (List ℕ × List ℤ))

@@ -1,13 +1,13 @@
 -- Document 01, "Rows": cells written in bulk.
 use Prim.Native.Nat.{ℕ, _+_, _*_}
-use mathlib.Core.Bool.{Bool, not, _&&_}
+use mathlib.Core.Bool.{Bool}
 use mathlib.Core.List.{List}
 use lib.IntN.{ℤ, pos}
 use lib.ListN.{length, getD}
-use Rattle.common.specs.Choice.{if_then_else_, _<?_, _=?_}
 use Rattle.common.specs.Sizes.{maxRows}
 use Rattle.common.specs.Lists.{joined, from}
-use Rattle.common.specs.Answers.{Answer, gives, refused, nowhere, cell, onGiven, each, outcome, writtenTo}
+use Rattle.common.specs.Answers.{Answer, gives, cell, onGiven, each, outcome, writtenTo}
+use Rattle.order.specs.Order.{bulkFits}
 use Rattle.little_endian.specs.Numbers.{bytesOf}
 use Rattle.column.specs.declared.column.ColumnType.{ColumnType}
 use Rattle.column.specs.Cells.{width, stored}
@@ -36,13 +36,11 @@ columnBytes ts long rows cells c = onGiven (each (cellBytes (typeAt ts c) long (
 abbrev pub tableBytes : List ColumnType → Bool → ℕ → Cells → Answer (List ℕ)
 tableBytes ts long rows cells = onGiven (each (columnBytes ts long rows cells) (from 0 (length ts))) (λ bytes. gives (joined bytes))
 
--- `write_rows`, where the columns are sound: 14, 23, the cells, 7; at most `most` rows
+-- `write_rows`, where the columns are sound: 14, 23, the cells, 7
 abbrev pub writtenRows : ℕ → List ColumnType → Bool → ℕ → Cells → List ℕ → Answer (ℕ × List ℕ)
 writtenRows most ts long rows cells out =
-    let count = rows * length ts in
-    if most <? rows then refused 14 nowhere
-    else if not (length (cells .kinds) =? count && length (cells .numbers) =? count) then refused 23 nowhere
-    else onGiven (tableBytes ts long rows cells) (writtenTo out)
+    onGiven (bulkFits most rows (length ts) (length (cells .kinds)) (length (cells .numbers)))
+    (λ x. onGiven (tableBytes ts long rows cells) (writtenTo out))
 
 abbrev pub writeRowsAnswer : Table → ℕ → Cells → List ℕ → Answer (ℕ × List ℕ)
 writeRowsAnswer t rows cells out = onColumns t (writtenRows maxRows (typesOf t) (t .«long_string_refs») rows cells out)

@@ -5,13 +5,15 @@ use column::ColumnMade;
 use column::FormOf;
 use common::Refusal;
 use common::sizes::MAX_COLUMNS;
+use order::Fits;
 ghost use mathlib.Core.Path.{_≡_};
 ghost use Prim.Native.Nat.{_<_, _≤_};
 ghost use Rattle.common.specs.Answers.{refusalOf};
+ghost use Rattle.order.specs.Order.{fitsAs};
 ghost use Rattle.column.specs.Forms.{formFor};
 ghost use Rattle.table.specs.Layout.{typesOf, soundColumns, noTable, madeAs, bitfieldsOutcome, columnsOutcome};
 ghost use Rattle.table.specs.Rows.{typeAt};
-ghost use Rattle.table.specs.inner.Layout.{verdictAs, Sound, layoutOf};
+ghost use Rattle.table.specs.inner.Layout.{Sound, layoutOf};
 
 // A layout, handed over whole: its first `count` columns are in use.
 pub struct Table {
@@ -38,23 +40,11 @@ pub enum Counted {
     Refused(Refusal),
 }
 
-pub(crate) enum Verdict {
-    Fine,
-    Refused(Refusal),
-}
-
 // Each column's width and the widths before it, and the row size. They travel by value.
 pub(crate) struct Layout {
     pub(crate) widths: [usize; 64],
     pub(crate) starts: [usize; 64],
     pub(crate) row_size: usize,
-}
-
-// The cells of one column among those of all: `rows` cells, the first at `column`, each `step` after the one before.
-pub(crate) struct Stride {
-    pub(crate) column: usize,
-    pub(crate) step: usize,
-    pub(crate) rows: usize,
 }
 
 impl Table {
@@ -68,7 +58,7 @@ impl Table {
             long_string_refs,
         };
         let verdict = judge(table, MAX_COLUMNS);
-        if let Verdict::Refused(refusal) = verdict {
+        if let Fits::Refused(refusal) = verdict {
             return no_table(refusal, long_string_refs);
         }
         TableMade {
@@ -123,14 +113,14 @@ fn no_table(refusal: Refusal, long_string_refs: bool) -> TableMade
 }
 
 // The columns in order; `most` is the largest number of them.
-pub(crate) fn judge(table: Table, most: usize) -> Verdict
+pub(crate) fn judge(table: Table, most: usize) -> Fits
     requires { ⌜ most ≤ 64 ⌝ }
-    ensures { λ r. ⌜ verdictAs r ≡ refusalOf (soundColumns most table) ⌝ }
+    ensures { λ r. ⌜ fitsAs r ≡ refusalOf (soundColumns most table) ⌝ }
 {
     let count = table.count;
     let long = table.long_string_refs;
     if most < count {
-        return Verdict::Refused(Refusal::TooManyColumns);
+        return Fits::Refused(Refusal::TooManyColumns);
     }
     let mut c = 0;
     while c < count {
@@ -138,11 +128,11 @@ pub(crate) fn judge(table: Table, most: usize) -> Verdict
         let coltype = column.coltype;
         let form = coltype.form(c, long);
         if let FormOf::Refused(refusal) = form {
-            return Verdict::Refused(refusal);
+            return Fits::Refused(refusal);
         }
         c += 1;
     }
-    Verdict::Fine
+    Fits::Yes
 }
 
 // The form of a column's cells.

@@ -2,27 +2,26 @@
 use crate::layout;
 use crate::layout::Counted;
 use crate::layout::Layout;
-use crate::layout::Stride;
 use crate::layout::Table;
-use crate::layout::Verdict;
-use column::CellForm;
+use cells::Stride;
 use common::Refusal;
 use common::sizes::MAX_BYTES;
 use common::sizes::MAX_COLUMNS;
 use common::sizes::MAX_ROWS;
+use order::Fits;
+use order::cell_fits;
 use value::ValueRef;
 ghost use mathlib.Core.Path.{_≡_};
-ghost use mathlib.Core.List.{map};
 ghost use Prim.Native.Nat.{_+_, _*_, _/_, _<_, _≤_};
 ghost use lib.ListN.{length};
 ghost use Rattle.common.specs.Choice.{if_then_else_, _=?_};
-ghost use Rattle.common.specs.Lists.{from, _over_};
+ghost use Rattle.common.specs.Lists.{_over_};
 ghost use Rattle.value.specs.Kinds.{cellAs};
 ghost use Rattle.table.specs.Layout.{typesOf};
 ghost use Rattle.table.specs.Rows.{rowSize, cellAt, rowByRow};
 ghost use Rattle.table.specs.Reading.{numRowsAnswer, readCellAnswer, readRowsOutcome, countedAs, cellReadAs};
 ghost use Rattle.table.specs.inner.Layout.{Sound, layoutOf};
-ghost use Rattle.table.specs.inner.Columns.{strided, formCell, Held, rowsFrom};
+ghost use Rattle.table.specs.inner.Columns.{rowsFrom};
 
 pub enum CellRead {
     Value(ValueRef),
@@ -47,7 +46,7 @@ impl Table {
             return Counted::Refused(Refusal::OverSize);
         }
         let verdict = layout::judge(self, MAX_COLUMNS);
-        if let Verdict::Refused(refusal) = verdict {
+        if let Fits::Refused(refusal) = verdict {
             return Counted::Refused(refusal);
         }
         let arrays = layout::layout_of(self);
@@ -65,11 +64,9 @@ impl Table {
         match counted {
             Counted::Refused(refusal) => CellRead::Refused(refusal),
             Counted::Count(rows) => {
-                if rows <= row {
-                    return CellRead::Refused(Refusal::OutsideTable);
-                }
-                if self.count <= column {
-                    return CellRead::Refused(Refusal::OutsideTable);
+                let fits = cell_fits(rows, self.count, row, column);
+                if let Fits::Refused(refusal) = fits {
+                    return CellRead::Refused(refusal);
                 }
                 CellRead::Value(cell_in(self, rows, row, column, stream))
             }
@@ -175,7 +172,7 @@ fn read_columns(
             step: count,
             rows: some,
         };
-        read_column(
+        cells_read::read_column(
             layout::form_at(table, c),
             stream,
             start,
@@ -184,54 +181,5 @@ fn read_columns(
             run,
         );
         c += 1;
-    }
-}
-
-// Settles the form once for the whole column: each call is compiled for its form alone.
-fn read_column(
-    form: CellForm,
-    stream: &[u8],
-    start: usize,
-    kinds: &mut [u8],
-    numbers: &mut [i32],
-    run: Stride,
-)
-    requires { ⌜ Held form (now stream) start (now kinds) (now numbers) run ⌝ }
-    ensures { λ r. ⌜ (now (kinds .exit) ≡ strided (run .column) (run .step) (map (λ i. formCell form (now (stream .entry)) start i .0) (from 0 (run .rows))) (now (kinds .entry))) × (now (numbers .exit) ≡ strided (run .column) (run .step) (map (λ i. formCell form (now (stream .entry)) start i .1) (from 0 (run .rows))) (now (numbers .entry))) ⌝ }
-{
-    match form {
-        CellForm::Int16 => read_cells(CellForm::Int16, stream, start, kinds, numbers, run),
-        CellForm::Int32 => read_cells(CellForm::Int32, stream, start, kinds, numbers, run),
-        CellForm::ShortRef => read_cells(CellForm::ShortRef, stream, start, kinds, numbers, run),
-        CellForm::LongRef => read_cells(CellForm::LongRef, stream, start, kinds, numbers, run),
-        CellForm::Binary => read_cells(CellForm::Binary, stream, start, kinds, numbers, run),
-    }
-}
-
-fn read_cells(
-    form: CellForm,
-    stream: &[u8],
-    start: usize,
-    kinds: &mut [u8],
-    numbers: &mut [i32],
-    run: Stride,
-)
-    requires { ⌜ Held form (now stream) start (now kinds) (now numbers) run ⌝ }
-    ensures { λ r. ⌜ (now (kinds .exit) ≡ strided (run .column) (run .step) (map (λ i. formCell form (now (stream .entry)) start i .0) (from 0 (run .rows))) (now (kinds .entry))) × (now (numbers .exit) ≡ strided (run .column) (run .step) (map (λ i. formCell form (now (stream .entry)) start i .1) (from 0 (run .rows))) (now (numbers .entry))) ⌝ }
-{
-    let width = form.width();
-    let step = run.step;
-    let rows = run.rows;
-    let mut cell = run.column;
-    let mut at = start;
-    let mut row = 0;
-    while row < rows {
-        let end = at + width;
-        let value = form.read_value(&stream[at..end], 0);
-        kinds[cell] = value.kind();
-        numbers[cell] = value.number();
-        cell += step;
-        at = end;
-        row += 1;
     }
 }

@@ -1,6 +1,6 @@
 -- What was written reads back. Assumes nothing.
 use mathlib.Core.Path.{_≡_, refl, sym, _∙_, ap}
-use mathlib.Core.Bool.{Bool, true, false, not, _&&_}
+use mathlib.Core.Bool.{Bool, true, false}
 use mathlib.Core.List.{List, [], _∷_, _++_, append-nil}
 use Prim.Native.Nat.{ℕ, zero, suc, _+_, _-_, _*_, _/_, _<_, _≤_}
 use native.Mathlib.Nat.{zero-mul, mul-zero, add-zero, zero-add, mul-div-cancel, mul-le-mul-right}
@@ -9,7 +9,7 @@ use lib.Dec.{ltb, eqb, lit≤}
 use lib.IntN.{ℤ, pos}
 use lib.ListN.{length, getD, take, drop, length-append, length-drop}
 use lib.Seq.{take-append-seam, drop-drop, take-append-le, drop-append-le, drop-at}
-use borrow.Author.Tests.{le-ltb, ltb-false, eqb-true, eqb-false}
+use borrow.Author.Tests.{le-ltb, eqb-true, eqb-false}
 use Rattle.common.specs.Choice.{if_then_else_}
 use Rattle.common.specs.Lists.{_over_, joined, from}
 use Rattle.common.specs.Answers.{Place, nowhere, Answer, gives, refused, cell, each, refusalOf, onGiven, outcome}
@@ -20,6 +20,8 @@ use Rattle.column.specs.declared.column.ColumnType.{ColumnType}
 use Rattle.column.specs.declared.column.ColumnType.the-variants.{Int16, Int32, Str, Binary}
 use Rattle.column.specs.declared.column.Column.{Column}
 use Rattle.column.specs.Cells.{width, stored, unstored}
+use Rattle.order.specs.Order.{bulkFits}
+use Rattle.order.proofs.Cells.{bulk}
 use Rattle.table.specs.declared.layout.Table.{Table}
 use Rattle.table.specs.Layout.{typesOf, soundColumns}
 use Rattle.table.specs.Rows.{rowSize, rowsIn, typeAt, cellAt, rowByRow}
@@ -27,10 +29,13 @@ use Rattle.table.specs.Reading.{rowsFound, numRowsAnswer, readRowsOutcome}
 use Rattle.table.specs.Writing.{Cells, cellBytes, columnBytes, tableBytes, writeRowsOutcome}
 use Rattle.table.specs.inner.Layout.{Sound}
 use Rattle.table.specs.inner.Columns.{givenBytes, plain}
-use Rattle.table.proofs.Each.{given-refusal, fine-first, all-given}
-use Rattle.table.proofs.Layouts.{next-le, types-count, columns-passed, judged-sound, size-le}
+use Rattle.cells.proofs.Each.{given-refusal, fine-first}
+use Rattle.cells.proofs.Strides.{next-le}
+use Rattle.cells_read.proofs.Parts.{part-number}
+use Rattle.table.proofs.Plain.{all-given}
+use Rattle.table.proofs.Layouts.{types-count, columns-passed, judged-sound, size-le}
 use Rattle.table.proofs.Grid.{length-grid, grid-same}
-use Rattle.table.proofs.Column.{part-number, column-length, columns-length, table-judged, table-given, table-length}
+use Rattle.table.proofs.Column.{column-length, columns-length, table-judged, table-given, table-length}
 use Rattle.table_promises.specs.Promises.{readsAs, handedBack, WriteThenRead}
 use Rattle.table_promises.proofs.Cells.{cell-read-back, stored-fits}
 use Rattle.table_promises.proofs.Agree.{read-is}
@@ -60,11 +65,11 @@ module _ (t : Table) (rows : ℕ) (cells : Cells) (out : List ℕ) (n : ℕ) (le
   abbrev bytes : Answer (List ℕ)
   bytes = tableBytes (typesOf t) (t .«long_string_refs») rows cells
 
-  abbrev fit : Bool
-  fit = eqb (length (cells .kinds)) (rows * length (typesOf t)) && eqb (length (cells .numbers)) (rows * length (typesOf t))
+  abbrev order : Answer (Unit {0})
+  order = bulkFits 65536 rows (length (typesOf t)) (length (cells .kinds)) (length (cells .numbers))
 
   done : writeRowsOutcome t rows cells out ≡ (gives n, left) → Done t rows cells out n left
-  done e = go (soundColumns 64 t) refl (ltb 65536 rows) refl fit refl bytes refl e
+  done e = go (soundColumns 64 t) refl order refl bytes refl e
     where
       room : (b : List ℕ) (d : Bool) → Sound t → rows ≤ 65536 → bytes ≡ gives b
           → outcome {A = ℕ} out (if d then refused 7 nowhere else gives (length b, b over out)) ≡ (gives n, left) → Done t rows cells out n left
@@ -73,14 +78,13 @@ module _ (t : Table) (rows : ℕ) (cells : Cells) (out : List ℕ) (n : ℕ) (le
           let i = pair (length b) n (b over out) left q in
           record { sound = s; few = f; fine = rw p; count = rw p (sym (i .0)); is = rw p (sym (i .1)) }
 
-      go : (x : Answer (List Column)) → soundColumns 64 t ≡ x → (a : Bool) → ltb 65536 rows ≡ a → (b : Bool) → fit ≡ b → (y : Answer (List ℕ)) → bytes ≡ y
-          → outcome out (onGiven x (λ xs. if a then refused 14 nowhere else if not b then refused 23 nowhere else onGiven y (λ c. if ltb (length out) (length c) then refused 7 nowhere else gives (length c, c over out)))) ≡ (gives n, left)
+      go : (x : Answer (List Column)) → soundColumns 64 t ≡ x → (o : Answer (Unit {0})) → order ≡ o → (y : Answer (List ℕ)) → bytes ≡ y
+          → outcome out (onGiven x (λ xs. onGiven o (λ z. onGiven y (λ c. if ltb (length out) (length c) then refused 7 nowhere else gives (length c, c over out))))) ≡ (gives n, left)
           → Done t rows cells out n left
-      go (refused m at) p a q b r y u f = absurd (never-pair m n at out left f)
-      go (gives xs) p true q b r y u f = absurd (never-pair 14 n nowhere out left f)
-      go (gives xs) p false q false r y u f = absurd (never-pair 23 n nowhere out left f)
-      go (gives xs) p false q true r (refused m at) u f = absurd (never-pair m n at out left f)
-      go (gives xs) p false q true r (gives c) u f = room c (ltb (length out) (length c)) (judged-sound t (rw p)) (ltb-false 65536 rows q) u f
+      go (refused m at) p o q y u f = absurd (never-pair m n at out left f)
+      go (gives xs) p (refused m at) q y u f = absurd (never-pair m n at out left f)
+      go (gives xs) p (gives z) q (refused m at) u f = absurd (never-pair m n at out left f)
+      go (gives xs) p (gives z) q (gives c) u f = room c (ltb (length out) (length c)) (judged-sound t (rw p)) (bulk 65536 rows _ _ _ (sym q) .few) u f
 
 no-refusal : (n : ℕ) (at : Place) → _≡_ {A = Answer (Unit {0})} (refused n at) (gives tt) → ⊥
 no-refusal n at e = let z : _≡_ {A = ℕ} 0 1 = cc in omega arith

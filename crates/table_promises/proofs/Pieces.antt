@@ -14,7 +14,7 @@ use Rattle.column.specs.declared.column.ColumnType.{ColumnType}
 use Rattle.column.specs.Cells.{width}
 use Rattle.table.specs.Rows.{rowSize, typeAt}
 use Rattle.table.specs.inner.Columns.{givenBytes, plain}
-use Rattle.table.proofs.Each.{fine-first}
+use Rattle.cells.proofs.Each.{fine-first}
 use Rattle.table.proofs.Column.{size-next}
 
 -- each of them given, where it is within

@@ -5,20 +5,13 @@ use mathlib.Core.Bool.{Bool}
 use mathlib.Core.List.{List, [], _∷_, map}
 use lib.ListN.{replicate}
 use Rattle.common.specs.Lists.{_over_}
-use Rattle.common.specs.Answers.{Answer, gives, refusalOf}
-use Rattle.common.specs.Refusals.{refusedBy}
+use Rattle.common.specs.Answers.{gives, refusalOf}
 use Rattle.column.specs.declared.column.ColumnType.{ColumnType}
 use Rattle.column.specs.Cells.{width}
 use Rattle.table.specs.declared.layout.Table.{Table}
 use Rattle.table.specs.declared.layout.Layout.{Layout}
-use Rattle.table.specs.declared.layout.Verdict.{Verdict}
-use Rattle.table.specs.declared.layout.Verdict.the-variants.{Fine, Refused}
 use Rattle.table.specs.Layout.{soundColumns, typesOf}
 use Rattle.table.specs.Rows.{rowSize}
-
-abbrev pub verdictAs : Verdict → Answer (Unit {0})
-verdictAs Fine = gives tt
-verdictAs (Refused x) = refusedBy x
 
 -- the columns were judged
 abbrev pub Sound : Table → Type 0

@@ -2,7 +2,10 @@
 use Rattle.table.proofs.Column.{column-within, form-cell}
 use Rattle.table.proofs.Grid.{Filled, filled-none, filled-turn, filled-done, rows-shift}
 use Rattle.table.proofs.Layouts.{types-count, start-at, width-at}
-use Rattle.table.specs.inner.Columns.{formCell, formWidth, rowsFrom}
+use Rattle.cells.specs.Strides.{formWidth}
+use Rattle.cells_read.specs.Reading.{formCell}
+use Rattle.cells_read.proofs.Strided.{cells-read}
+use Rattle.table.specs.inner.Columns.{rowsFrom}
 use Rattle.table.specs.Rows.{rowSize, typeAt, cellAt}
 use Rattle.table.specs.Layout.{typesOf}
 use Rattle.table.specs.declared.layout.Layout.{Layout}
@@ -14,6 +17,7 @@ use lib.IntN.{ℤ, pos}
 use native.Mathlib.Omega.{arith}
 use native.Mathlib.Nat.{add-mul, add-zero, mul-le-mul-right}
 use Prim.Native.Nat.{ℕ, _+_, _-_, _*_, _≤_}
+use mathlib.Core.List.{List}
 use mathlib.Core.Path.{_≡_, ap, _∙_}
 use Rattle.table.proofs.read.read_columns.Statement.{statement}
 use Rattle.table.proofs.read.read_columns.Tie as tie
@@ -83,14 +87,7 @@ form-at-requires : tie.Need-form-at-requires Inv-loop μ-loop
 form-at-requires c κs = (c .before .before .before .before .before .before .pre .0, c .before .before .loop-test .taken)
 
 read-column-requires : tie.Need-read-column-requires Inv-loop μ-loop
-read-column-requires c κs =
-    let k = c .before .before .before .before .before in
-    let l = c .before .before .before .before .before .before .loop in
-    let a = c .before .before .before .before .before .before .before .before .before .args in
-    let t = a .table in
-    let w = form-width (t .«long_string_refs») (typeAt (typesOf t) (l .c)) in
-    let all : a .rows * before k + a .band .first * wide k + a .band .rows * formWidth (formFor (typeAt (typesOf t) (l .c)) (t .«long_string_refs»)) ≤ length (a .stream .now) = rw (← w) (omega (arith, inside k)) in
-    rw (start-is k, width-is k, c .before .before .form-at .ensures) (record { stream = all; kinds-long = l .inv .1 .sized; numbers-long = l .inv .2 .sized; below = k .loop-test .taken })
+read-column-requires c κs = tt
 
 add-c : tie.Need-add-c Inv-loop μ-loop
 add-c c = omega arith
@@ -109,10 +106,17 @@ loop-again c =
     let first = a .band .first in
     let start = a .rows * before k + first * wide k in
     let is : (r : ℕ) → formCell f (a .stream .now) start r ≡ cellAt (typesOf t) long (a .rows) (a .stream .now) (first + r) (l .c) = λ r. form-cell (typesOf t) long (a .rows) first (a .stream .now) r (l .c) in
-    let e = rw (start-is k, width-is k, c .before .before .before .before .before .before .form-at .ensures) at (c .before .before .before .read-column .ensures) in (
+    let pre = c .before .before .before .before .before .before .before .before .before .before .before .before .before .pre in
+    let w = form-width long (typeAt (typesOf t) (l .c)) in
+    let all : start + a .band .rows * formWidth f ≤ length (a .stream .now) = rw (← w) (omega (arith, inside k)) in
+    let some : a .band .rows ≤ 65536 = omega (arith, pre .2, pre .3) in
+    let fits = cells-read f (l .kinds) (l .numbers) (record { column = l .c; step = t .count; rows = a .band .rows }) (a .stream .now) start (record { handed = record { few = some; narrow = pre .0 .0; kinds-are = l .inv .1 .sized; numbers-are = l .inv .2 .sized; below = k .loop-test .taken }; stream = all }) in
+    let both = rw (start-is k, width-is k, c .before .before .before .before .before .before .form-at .ensures) at (c .before .before .before .read-column .ensures) ∙ fits in
+    let kinds = ap (λ (x : List ℕ × List ℤ). x .0) both in
+    let numbers = ap (λ (x : List ℕ × List ℤ). x .1) both in (
       omega arith,
-      rw (e .0) (filled-turn 0 (λ r j. cellAt (typesOf t) long (a .rows) (a .stream .now) (first + r) j .0) (a .band .rows) (t .count) (l .c) (λ r. formCell f (a .stream .now) start r .0) (l .kinds) (k .loop-test .taken) (λ r. ap (λ (x : ℕ × ℤ). x .0) (is r)) (l .inv .1)),
-      rw (e .1) (filled-turn (pos 0) (λ r j. cellAt (typesOf t) long (a .rows) (a .stream .now) (first + r) j .1) (a .band .rows) (t .count) (l .c) (λ r. formCell f (a .stream .now) start r .1) (l .numbers) (k .loop-test .taken) (λ r. ap (λ (x : ℕ × ℤ). x .1) (is r)) (l .inv .2)),
+      rw kinds (filled-turn 0 (λ r j. cellAt (typesOf t) long (a .rows) (a .stream .now) (first + r) j .0) (a .band .rows) (t .count) (l .c) (λ r. formCell f (a .stream .now) start r .0) (l .kinds) (k .loop-test .taken) (λ r. ap (λ (x : ℕ × ℤ). x .0) (is r)) (l .inv .1)),
+      rw numbers (filled-turn (pos 0) (λ r j. cellAt (typesOf t) long (a .rows) (a .stream .now) (first + r) j .1) (a .band .rows) (t .count) (l .c) (λ r. formCell f (a .stream .now) start r .1) (l .numbers) (k .loop-test .taken) (λ r. ap (λ (x : ℕ × ℤ). x .1) (is r)) (l .inv .2)),
     )
 
 same-length : tie.Need-same-length Inv-loop μ-loop

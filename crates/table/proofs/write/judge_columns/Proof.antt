@@ -2,9 +2,11 @@
 use Rattle.column.specs.Forms.{formFor}
 use Rattle.table.proofs.Column.{column-judged, table-judged}
 use Rattle.table.proofs.Layouts.{types-count}
-use Rattle.table.proofs.Each.{each-turn, each-stop, each-end}
-use Rattle.table.specs.inner.Columns.{formBytes}
-use Rattle.table.specs.inner.Layout.{verdictAs}
+use Rattle.cells.proofs.Each.{each-turn, each-stop, each-end}
+use Rattle.cells.specs.Judging.{cellNumber}
+use Rattle.cells.specs.inner.Strides.{Handed}
+use Rattle.cells.proofs.Strides.{cells-judged}
+use Rattle.order.specs.Order.{fitsAs}
 use Rattle.table.specs.Writing.{Cells, columnBytes, tableBytes}
 use Rattle.table.specs.Rows.{typeAt}
 use Rattle.table.specs.Layout.{typesOf}
@@ -44,12 +46,16 @@ whole c =
     ∙ sym (table-judged (typesOf (c .args .table)) (c .args .table .«long_string_refs») (c .args .rows) (cellsOf c))
 
 -- what the column of this turn says
-said : (c : tie.After-judge-column Inv-loop μ-loop) → refusalOf (bytesIn (c .before .before .before .before .before) (c .before .before .before .loop .c)) ≡ verdictAs (c .judge-column .result)
+said : (c : tie.After-judge-column Inv-loop μ-loop) → refusalOf (bytesIn (c .before .before .before .before .before) (c .before .before .before .loop .c)) ≡ fitsAs (c .judge-column .result)
 said c =
-    let t = c .before .before .before .before .before .args .table in
+    let s = c .before .before .before .before .before in
+    let l = c .before .before .before .loop in
+    let t = s .args .table in
+    let f = formFor (typeAt (typesOf t) (l .c)) (t .«long_string_refs») in
+    let h : Handed (length (s .args .kinds .now)) (length (s .args .numbers .now)) (record { column = l .c; step = t .count; rows = s .args .rows }) = record { few = s .pre .1; narrow = s .pre .0 .0; kinds-are = s .pre .2; numbers-are = s .pre .3; below = c .before .before .loop-test .taken } in
     column-judged (typesOf t) (t .«long_string_refs») (c .before .before .before .before .before .args .rows) (cellsOf (c .before .before .before .before .before)) (c .before .before .before .loop .c)
-    ∙ ap (λ (n : ℕ). refusalOf (each (formBytes (formFor (typeAt (typesOf t) (c .before .before .before .loop .c)) (t .«long_string_refs»)) (cellsOf (c .before .before .before .before .before)) (record { column = c .before .before .before .loop .c; step = n; rows = c .before .before .before .before .before .args .rows })) (from 0 (c .before .before .before .before .before .args .rows)))) (count-is (c .before .before .before .before .before))
-    ∙ sym (rw (c .before .form-at .ensures) at (c .judge-column .ensures))
+    ∙ ap (λ (n : ℕ). refusalOf (each (cellNumber f (s .args .kinds .now) (s .args .numbers .now) (record { column = l .c; step = n; rows = s .args .rows })) (from 0 (s .args .rows)))) (count-is s)
+    ∙ sym (rw (c .before .form-at .ensures) at (c .judge-column .ensures) ∙ cells-judged f (s .args .kinds .now) (s .args .numbers .now) (record { column = l .c; step = t .count; rows = s .args .rows }) h)
 
 loop-holds : tie.Need-loop-holds Inv-loop μ-loop
 loop-holds c = (omega arith, rw sub-zero)
@@ -58,7 +64,7 @@ form-at-requires : tie.Need-form-at-requires Inv-loop μ-loop
 form-at-requires c κs = (c .before .before .before .pre .0, c .loop-test .taken)
 
 judge-column-requires : tie.Need-judge-column-requires Inv-loop μ-loop
-judge-column-requires c κs = record { kinds = c .before .before .before .before .pre .2; numbers = c .before .before .before .before .pre .3; below = c .before .loop-test .taken }
+judge-column-requires c κs = tt
 
 enum-known-verdict : tie.Need-enum-known-verdict Inv-loop μ-loop
 enum-known-verdict c = search needs
@@ -66,7 +72,7 @@ enum-known-verdict c = search needs
 returns : tie.Need-returns Inv-loop μ-loop
 returns c =
     let l = c .before .before .before .before .before .before .loop in
-    each-stop (bytesIn (c .before .before .before .before .before .before .before .before)) (l .c) (c .before .before .before .before .before .before .before .before .args .table .count) (c .before .before .before .before .before .loop-test .taken) _ _ (said (c .before .before .before) ∙ ap verdictAs (c .before .verdict .given .1))
+    each-stop (bytesIn (c .before .before .before .before .before .before .before .before)) (l .c) (c .before .before .before .before .before .before .before .before .args .table .count) (c .before .before .before .before .before .loop-test .taken) _ _ (said (c .before .before .before) ∙ ap fitsAs (c .before .verdict .given .1))
     ∙ l .inv .1 ∙ whole (c .before .before .before .before .before .before .before .before)
 
 enum-told : tie.Need-enum-told Inv-loop μ-loop
@@ -81,7 +87,7 @@ loop-less c = search needs
 loop-again : tie.Need-loop-again Inv-loop μ-loop
 loop-again c =
     let l = c .before .before .before .before .before .loop in
-    (omega arith, each-turn (bytesIn (c .before .before .before .before .before .before .before)) (l .c) (c .before .before .before .before .before .before .before .args .table .count) (c .before .before .before .before .loop-test .taken) (said (c .before .before) ∙ ap verdictAs (c .enum-told .given .1)) ∙ l .inv .1)
+    (omega arith, each-turn (bytesIn (c .before .before .before .before .before .before .before)) (l .c) (c .before .before .before .before .before .before .before .args .table .count) (c .before .before .before .before .loop-test .taken) (said (c .before .before) ∙ ap fitsAs (c .enum-told .given .1)) ∙ l .inv .1)
 
 returns-2 : tie.Need-returns-2 Inv-loop μ-loop
 returns-2 c =

@@ -1,8 +1,12 @@
 -- `write::write_columns` meets its contract. What is still to be written, put at the place, stays the same in each turn. Assumes nothing.
-use Rattle.table.proofs.Column.{column-judged, column-bytes, column-length, column-within, size-next, table-judged}
+use Rattle.table.proofs.Column.{column-bytes, column-length, column-within, size-next, table-judged}
 use Rattle.table.proofs.Layouts.{types-count}
-use Rattle.table.proofs.Each.{from-next, fine-first, plain-turn, plain-end}
-use Rattle.table.specs.inner.Columns.{formBytes, formWidth, givenBytes, plain}
+use Rattle.cells.proofs.Each.{from-next, fine-first}
+use Rattle.table.proofs.Plain.{plain-turn, plain-end}
+use Rattle.cells.specs.Strides.{formWidth}
+use Rattle.cells.specs.Writing.{plainBytes, bytesFrom}
+use Rattle.cells.proofs.Strides.{cells-written}
+use Rattle.table.specs.inner.Columns.{givenBytes, plain}
 use Rattle.table.specs.Writing.{Cells, columnBytes}
 use Rattle.table.specs.Rows.{rowSize, typeAt}
 use Rattle.table.specs.Layout.{typesOf}
@@ -55,12 +59,6 @@ fine-now c =
     let l = c .before .loop in
     fine-first (bytesIn (c .before .before .before .before)) (l .c) (from (l .c + 1) (c .before .before .before .before .args .table .count - (l .c + 1))) (rw (from-next (l .c) (c .before .before .before .before .args .table .count) (c .loop-test .taken)) at (l .inv .4))
 
-fine-form : (c : tie.In-loop Inv-loop μ-loop)
-    → refusalOf (each (formBytes (formFor (typeAt (typesOf (c .before .before .before .before .args .table)) (c .before .loop .c)) (c .before .before .before .before .args .table .«long_string_refs»)) (cellsOf (c .before .before .before .before)) (record { column = c .before .loop .c; step = c .before .before .before .before .args .table .count; rows = c .before .before .before .before .args .rows })) (from 0 (c .before .before .before .before .args .rows))) ≡ gives tt
-fine-form c =
-    let t = c .before .before .before .before .args .table in
-    rw (count-is (c .before .before .before .before)) at (sym (column-judged (typesOf t) (t .«long_string_refs») (c .before .before .before .before .args .rows) (cellsOf (c .before .before .before .before)) (c .before .loop .c)) ∙ fine-now c .0)
-
 width-is : (c : tie.After-width Inv-loop μ-loop) → c .width .result ≡ width (typeAt (typesOf (c .before .before .before .before .before .before .before .before .before .before .args .table)) (c .before .before .before .before .before .before .before .loop .c)) (c .before .before .before .before .before .before .before .before .before .before .args .table .«long_string_refs»)
 width-is c = rw (c .before .before .before .before .before .form-at .ensures) at (c .width .ensures) ∙ sym (form-width (c .before .before .before .before .before .before .before .before .before .before .args .table .«long_string_refs») (typeAt (typesOf (c .before .before .before .before .before .before .before .before .before .before .args .table)) (c .before .before .before .before .before .before .before .loop .c)))
 
@@ -83,14 +81,7 @@ part-write-column-end : tie.Need-part-write-column-end Inv-loop μ-loop
 part-write-column-end c = omega (arith, room (c .before))
 
 write-column-requires : tie.Need-write-column-requires Inv-loop μ-loop
-write-column-requires c κs =
-    let l = c .before .before .before .loop in
-    let t = c .before .before .before .before .before .before .args .table in
-    let f = formFor (typeAt (typesOf t) (l .c)) (t .«long_string_refs») in
-    let w = form-width (t .«long_string_refs») (typeAt (typesOf t) (l .c)) in
-    let tail = length-tail (l .at) (l .out) in
-    let r : c .before .before .before .before .before .before .args .rows * formWidth f ≤ length (take (length (l .out) - l .at) (drop (l .at) (l .out))) = rw (← w) (omega (arith, room (c .before .before))) in
-    rw (c .before .form-at .ensures) (record { handed = record { kinds = c .before .before .before .before .before .before .pre .2; numbers = c .before .before .before .before .before .before .pre .3; below = c .before .before .loop-test .taken }; room = r; fine = fine-form (c .before .before) })
+write-column-requires c κs = tt
 
 width-requires : tie.Need-width-requires Inv-loop μ-loop
 width-requires c κs = tt
@@ -117,10 +108,19 @@ loop-again c =
     let n = count-is (c .before .before .before .before .before .before .before .before .before .before) in
     let h = c .before .before .before .before .before .before .loop-test .taken in
     let fine = fine-now (c .before .before .before .before .before .before) in
-    let is : plain (formBytes (formFor (typeAt (typesOf t) (l .c)) long) (cellsOf (c .before .before .before .before .before .before .before .before .before .before)) (record { column = l .c; step = t .count; rows = a .rows })) 0 (a .rows) ≡ givenBytes (f (l .c)) =
-    ap (λ (k : ℕ). plain (formBytes (formFor (typeAt (typesOf t) (l .c)) long) (cellsOf (c .before .before .before .before .before .before .before .before .before .before)) (record { column = l .c; step = k; rows = a .rows })) 0 (a .rows)) (sym n)
+    let form = formFor (typeAt (typesOf t) (l .c)) long in
+    let kinds = a .kinds .now in
+    let numbers = a .numbers .now in
+    let part = take (length (l .out) - l .at) (drop (l .at) (l .out)) in
+    let tail = length-tail (l .at) (l .out) in
+    let wide = form-width long (typeAt (typesOf t) (l .c)) in
+    let r : a .rows * formWidth form ≤ length part = rw (← wide) (omega (arith, room (c .before .before .before .before .before .before))) in
+    let pre = c .before .before .before .before .before .before .before .before .before .before .pre in
+    let fits = cells-written form kinds numbers (record { column = l .c; step = t .count; rows = a .rows }) part (record { handed = record { few = pre .1; narrow = pre .0 .0; kinds-are = pre .2; numbers-are = pre .3; below = h }; room = r }) in
+    let is : bytesFrom (plainBytes form kinds numbers (record { column = l .c; step = t .count; rows = a .rows })) 0 (a .rows) ≡ givenBytes (f (l .c)) =
+    ap (λ (k : ℕ). bytesFrom (plainBytes form kinds numbers (record { column = l .c; step = k; rows = a .rows })) 0 (a .rows)) (sym n)
     ∙ sym (column-bytes (typesOf t) long (a .rows) (cellsOf (c .before .before .before .before .before .before .before .before .before .before)) (l .c) (fine .0)) in
-    let put = rw (c .before .before .before .before .before .form-at .ensures, is) at (c .before .before .before .write-column .ensures) in
+    let put = rw (c .before .before .before .before .before .form-at .ensures) at (c .before .before .before .write-column .ensures) ∙ fits ∙ ap (λ (x : List ℕ). x over part) is in
     let size = column-length (typesOf t) long (a .rows) (cellsOf (c .before .before .before .before .before .before .before .before .before .before)) (l .c) (fine .0) in
     let next : a .rows * rowSize (take (l .c + 1) (typesOf t)) long ≡ a .rows * rowSize (take (l .c) (typesOf t)) long + a .rows * width (typeAt (typesOf t) (l .c)) long =
     ap (λ (k : ℕ). a .rows * k) (size-next (typesOf t) long (l .c) (omega arith)) ∙ mul-add (a .rows) _ _ in (

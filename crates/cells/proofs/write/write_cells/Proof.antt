@@ -1,0 +1,174 @@
+-- `write::write_cells` meets its contract. What is still to be written, put at the place, stays the same in each turn. Assumes nothing.
+use Rattle.cells.proofs.Strides.{next-le, next-is}
+use Rattle.cells.proofs.Strides.{bytes-turn, bytes-end}
+use Rattle.cells.specs.Strides.{formWidth}
+use Rattle.cells.specs.Writing.{plainBytes, bytesFrom}
+use Rattle.column.specs.Forms.{plainNumber}
+use Rattle.value.specs.Handed.{cellOf}
+use Rattle.little_endian.proofs.Laws.{length-bytes, written}
+use Rattle.little_endian.specs.Numbers.{bytesOf}
+use Rattle.common.proofs.Parts.{over-next, over-none, exact-over}
+use Rattle.common.specs.Lists.{_over_, overAt}
+use mir.Facts.{toZ-ofZ}
+use mir.Syntax.{w32}
+use lib.Seq.{length-take-le}
+use lib.ListN.{length, getD, take, drop, length-drop}
+use lib.IntN.{pos}
+use borrow.Rule.Slice.PartMut.{putMid, same-len-mid}
+use native.Mathlib.Omega.{arith}
+use native.Mathlib.Nat.{sub-zero, zero-mul}
+use Prim.Native.Nat.{ℕ, _+_, _-_, _*_, _≤_, _<_, _^_}
+use mathlib.Core.List.{List}
+use mathlib.Core.Path.{_≡_, refl, sym, ap, _∙_}
+use borrow.Author.Needs.{needs}
+use Rattle.cells.proofs.write.write_cells.Statement.{statement}
+use Rattle.cells.proofs.write.write_cells.Tie as tie
+
+abbrev Inv-loop : tie.InvT-loop
+Inv-loop form kinds numbers out₀ width step rows cell₀ at₀ row₀ out cell at row =
+    (row ≤ rows) × (cell ≡ row * step + cell₀) × (at ≡ row * width) × (length out ≡ length out₀)
+    × (overAt at (bytesFrom (plainBytes form kinds numbers (record { column = cell₀; step = step; rows = rows })) row (rows - row)) out
+    ≡ bytesFrom (plainBytes form kinds numbers (record { column = cell₀; step = step; rows = rows })) 0 rows over out₀)
+
+abbrev μ-loop : tie.MeasureT-loop
+μ-loop form kinds numbers out₀ width step rows cell₀ at₀ row₀ out cell at row = rows - row
+
+-- in a turn there is a cell to read, and room for its bytes
+cell-in : (c : tie.In-loop Inv-loop μ-loop) → (c .before .loop .cell < length (c .before .before .before .before .before .args .kinds .now)) × (c .before .loop .cell + c .before .before .before .before .before .args .run .step < 2 ^ 64)
+cell-in c =
+    let n = next-le (c .before .loop .row) (c .before .before .before .before .before .args .run .rows) (c .before .before .before .before .before .args .run .step) (c .loop-test .taken) in
+    let k = c .before .before .before .before .before .pre .handed .kinds-are in
+    let b = c .before .before .before .before .before .pre .handed .below in
+    (omega (arith, n), omega (arith, n, c .before .before .before .before .before .good .1 .1 .0))
+
+room : (c : tie.In-loop Inv-loop μ-loop) → c .before .loop .at + c .before .before .width .result ≤ length (c .before .loop .out)
+room c =
+    let l = c .before .loop in
+    let all : c .before .before .before .before .before .args .run .rows * c .before .before .width .result ≤ length (c .before .before .before .before .before .args .out .now) = rw (c .before .before .width .ensures) (c .before .before .before .before .before .pre .room) in
+    omega (arith, next-le (l .row) (c .before .before .before .before .before .args .run .rows) (c .before .before .width .result) (c .loop-test .taken))
+
+-- the bytes of this turn
+bytes-is : (c : tie.After-number2 Inv-loop μ-loop)
+    → let a = c .before .before .before .before .before .before .before .before .before .args in bytesOf (formWidth (a .form)) (c .number2 .result) ≡ plainBytes (a .form) (a .kinds .now) (a .numbers .now) (a .run) (c .before .before .before .before .before .loop .row)
+bytes-is c =
+    let a = c .before .before .before .before .before .before .before .before .before .args in
+    let l = c .before .before .before .before .before .loop in
+    let i = l .row * a .run .step + a .run .column in
+    let k = getD (a .kinds .now) i 0 in
+    let z = getD (a .numbers .now) i (pos 0) in
+    let same : getD (a .kinds .now) (l .cell) 0 ≡ k = ap (λ (j : ℕ). getD (a .kinds .now) j 0) (l .inv .1) in
+    let same-number : getD (a .numbers .now) (l .cell) (pos 0) ≡ z = ap (λ (j : ℕ). getD (a .numbers .now) j (pos 0)) (l .inv .1) in
+    let at = toZ-ofZ {w = w32} {z = getD (a .numbers .now) (l .cell) (pos 0)} (record { sfits = c .before .before .number .given }) in
+    let made : c .before .new .result ≡ cellOf k z = rw (at, same, same-number) at (c .before .new .ensures) in
+    let e : c .number2 .result ≡ plainNumber (a .form) (cellOf k z) = rw made at (c .number2 .ensures) in
+    ap (bytesOf (formWidth (a .form))) e
+
+width-requires : tie.Need-width-requires Inv-loop μ-loop
+width-requires c κs = tt
+
+loop-holds : tie.Need-loop-holds Inv-loop μ-loop
+loop-holds c = (omega arith, rw zero-mul (omega arith), rw zero-mul, refl, rw sub-zero)
+
+shared-slice-read-kind : tie.Need-shared-slice-read-kind Inv-loop μ-loop
+shared-slice-read-kind c = cell-in (c .before) .0
+
+mul-number : tie.Need-mul-number Inv-loop μ-loop
+mul-number c =
+    let h : c .before .before .loop .cell < length (c .before .before .before .before .before .before .args .numbers .now) = rw (c .before .before .before .before .before .before .pre .handed .numbers-are) (rw (c .before .before .before .before .before .before .pre .handed .kinds-are) at (cell-in (c .before) .0)) in
+    search needs
+
+shared-slice-copy-out-number : tie.Need-shared-slice-copy-out-number Inv-loop μ-loop
+shared-slice-copy-out-number c = rw (c .before .before .before .before .before .before .pre .handed .numbers-are) (rw (c .before .before .before .before .before .before .pre .handed .kinds-are) at (cell-in (c .before) .0))
+
+new-requires : tie.Need-new-requires Inv-loop μ-loop
+new-requires c κs = tt
+
+number-requires : tie.Need-number-requires Inv-loop μ-loop
+number-requires c κs = tt
+
+add-end : tie.Need-add-end Inv-loop μ-loop
+add-end c = omega (arith, room (c .before .before .before .before))
+
+sub-write : tie.Need-sub-write Inv-loop μ-loop
+sub-write c = omega (arith, room (c .before .before .before .before))
+
+part-write-start : tie.Need-part-write-start Inv-loop μ-loop
+part-write-start c = omega (arith, room (c .before .before .before .before))
+
+part-write-end : tie.Need-part-write-end Inv-loop μ-loop
+part-write-end c = omega (arith, room (c .before .before .before .before))
+
+write-requires : tie.Need-write-requires Inv-loop μ-loop
+write-requires c κs = tt
+
+add-cell : tie.Need-add-cell Inv-loop μ-loop
+add-cell c = record { fits = cell-in (c .before .before .before .before .before .before .before .before) .1 }
+
+add-row : tie.Need-add-row Inv-loop μ-loop
+add-row c = omega arith
+
+loop-less : tie.Need-loop-less Inv-loop μ-loop
+loop-less c = omega arith
+
+loop-again : tie.Need-loop-again Inv-loop μ-loop
+loop-again c =
+    let a = c .before .before .before .before .before .before .before .before .before .before .before .before .before .args in
+    let l = c .before .before .before .before .before .before .before .before .before .loop in
+    let f = plainBytes (a .form) (a .kinds .now) (a .numbers .now) (a .run) in
+    let w = c .before .before .before .before .before .before .before .before .before .before .width .result in
+    let bytes = f (l .row) in
+    let rest = bytesFrom f (l .row + 1) (a .run .rows - (l .row + 1)) in
+    let more = room (c .before .before .before .before .before .before .before .before) in
+    let k = l .at + w - l .at in
+    let ke : k ≡ w = omega arith in
+    let part = take k (drop (l .at) (l .out)) in
+    let n : length part ≡ k = length-take-le k (drop (l .at) (l .out)) (rw length-drop (omega arith)) in
+    let is : bytesOf w (c .before .before .before .before .number2 .result) ≡ bytes = rw (c .before .before .before .before .before .before .before .before .before .before .width .ensures) (bytes-is (c .before .before .before .before)) in
+    let size : length bytes ≡ w = ap length (sym is) ∙ length-bytes w (c .before .before .before .before .number2 .result) in
+    let done = written (c .before .before .before .before .number2 .result) w part 0 (overAt 0 (bytesOf w (c .before .before .before .before .number2 .result)) part) (omega arith) refl in
+    let put : c .before .before .write .last .1 .1 .0 ≡ bytes over part =
+    ap (λ (x : _ × List ℕ). x .1) (c .before .before .write .ensures ∙ sym done) ∙ ap (λ (x : List ℕ). x over part) is in
+    let left : putMid (l .at) k (l .out) (c .before .before .write .last .1 .1 .0) ≡ overAt (l .at) bytes (l .out) =
+    rw put (exact-over bytes (l .out) (l .at) k (omega arith) (size ∙ sym ke)) in (
+      omega arith,
+      rw next-is (omega arith),
+      rw next-is (omega arith),
+      same-len-mid (l .at) k (l .out) (c .before .before .write .last .1 .1 .0) (c .before .before .write .kept .1 .1 .0) ∙ l .inv .3,
+      rw left (over-next bytes rest (l .out) (l .at) w (omega arith) size)
+          ∙ ap (λ (x : List ℕ). overAt (l .at) x (l .out)) (sym (bytes-turn f (l .row) (a .run .rows) (c .before .before .before .before .before .before .before .before .loop-test .taken)))
+          ∙ l .inv .4,
+    )
+
+same-length : tie.Need-same-length Inv-loop μ-loop
+same-length c = omega arith
+
+returns : tie.Need-returns Inv-loop μ-loop
+returns c =
+    let l = c .before .loop in
+    let a = c .before .before .before .before .before .args in
+    sym (over-none (l .at) (l .out)) ∙ rw (bytes-end (plainBytes (a .form) (a .kinds .now) (a .numbers .now) (a .run)) (l .row) (a .run .rows) (c .loop-test .left)) at (l .inv .4)
+
+pub write-cells-spec : {M : Type 1} → statement M
+write-cells-spec =
+    tie.close
+    (tie.spec
+    Inv-loop
+    μ-loop
+    width-requires
+    loop-holds
+    shared-slice-read-kind
+    mul-number
+    shared-slice-copy-out-number
+    new-requires
+    number-requires
+    add-end
+    sub-write
+    part-write-start
+    part-write-end
+    write-requires
+    add-cell
+    add-row
+    loop-less
+    loop-again
+    same-length
+    returns)

@@ -1,0 +1,4 @@
+pub mod Strides
+pub mod Judging
+pub mod Writing
+pub mod inner

@@ -1,0 +1,2 @@
+pub mod Strided
+pub mod Parts

@@ -8,10 +8,10 @@ use lib.Dec.{ltb}
 use lib.IntN.{ℤ, pos, negsuc, negℤ}
 use Rattle.common.specs.Choice.{if_then_else_, _=?_, _<ℤ?_}
 use Rattle.common.specs.Answers.{Place, gives, refused, refusalOf}
-use Rattle.column.specs.declared.form.CellForm.{CellForm}
-use Rattle.column.specs.declared.form.CellForm.the-variants.{Int16, Int32, ShortRef, LongRef, Binary}
-use Rattle.column.specs.Cells.{stored, integer, referenceNumber}
-use Rattle.column.specs.Forms.{typeIn, longIn}
+use Rattle.column_type.specs.declared.form.CellForm.{CellForm}
+use Rattle.column_type.specs.declared.form.CellForm.the-variants.{Int16, Int32, ShortRef, LongRef, Binary}
+use Rattle.column_type.specs.Cells.{stored, integer, referenceNumber}
+use Rattle.column_type.specs.Forms.{typeIn, longIn}
 use Rattle.cells.specs.inner.Limits.{limitsOf, inLimits}
 
 inside : (x : Bool) → not x ≡ true → x ≡ false

@@ -12,7 +12,7 @@ use lib.ListN.{length}
 use borrow.Author.Tests.{leb-true, ltb-true, eqb-true, le-leb, lt-ltb, eq-eqb}
 use Rattle.common.specs.Lists.{_over_, from}
 use Rattle.common.specs.Answers.{each, refusalOf}
-use Rattle.column.specs.declared.form.CellForm.{CellForm}
+use Rattle.column_type.specs.declared.form.CellForm.{CellForm}
 use Rattle.cells.specs.declared.stride.Stride.{Stride}
 use Rattle.cells.specs.Strides.{handed, formWidth}
 use Rattle.cells.specs.Judging.{cellNumber, judgeAnswer}

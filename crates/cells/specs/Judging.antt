@@ -6,9 +6,9 @@ use lib.ListN.{length, getD}
 use Rattle.common.specs.Choice.{if_then_else_}
 use Rattle.common.specs.Lists.{from}
 use Rattle.common.specs.Answers.{Answer, refused, nowhere, cell, each, refusalOf}
-use Rattle.column.specs.declared.form.CellForm.{CellForm}
-use Rattle.column.specs.Cells.{stored}
-use Rattle.column.specs.Forms.{typeIn, longIn}
+use Rattle.column_type.specs.declared.form.CellForm.{CellForm}
+use Rattle.column_type.specs.Cells.{stored}
+use Rattle.column_type.specs.Forms.{typeIn, longIn}
 use Rattle.cells.specs.declared.stride.Stride.{Stride}
 use Rattle.cells.specs.Strides.{handed, placeIn}
 

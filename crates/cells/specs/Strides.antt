@@ -3,9 +3,9 @@ use Prim.Native.Nat.{ℕ, _+_, _*_}
 use mathlib.Core.Bool.{Bool, _&&_}
 use Rattle.common.specs.Choice.{_<?_, _≤?_, _=?_}
 use Rattle.common.specs.Sizes.{maxRows, maxColumns}
-use Rattle.column.specs.declared.form.CellForm.{CellForm}
-use Rattle.column.specs.Cells.{width}
-use Rattle.column.specs.Forms.{typeIn, longIn}
+use Rattle.column_type.specs.declared.form.CellForm.{CellForm}
+use Rattle.column_type.specs.Cells.{width}
+use Rattle.column_type.specs.Forms.{typeIn, longIn}
 use Rattle.cells.specs.declared.stride.Stride.{Stride}
 
 -- as many kinds and numbers as the rows and columns say

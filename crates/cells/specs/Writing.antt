@@ -8,8 +8,8 @@ use Rattle.common.specs.Choice.{if_then_else_, _≤?_}
 use Rattle.common.specs.Lists.{_over_, joined, from}
 use Rattle.little_endian.specs.Numbers.{bytesOf}
 use Rattle.value.specs.Handed.{cellOf}
-use Rattle.column.specs.declared.form.CellForm.{CellForm}
-use Rattle.column.specs.Forms.{plainNumber}
+use Rattle.column_type.specs.declared.form.CellForm.{CellForm}
+use Rattle.column_type.specs.Forms.{plainNumber}
 use Rattle.cells.specs.declared.stride.Stride.{Stride}
 use Rattle.cells.specs.Strides.{handed, placeIn, formWidth}
 

@@ -1,8 +1,8 @@
 // The judge of a column's cells.
 use crate::stride;
 use crate::stride::Stride;
-use column::CellForm;
-use column::Stored;
+use column_type::CellForm;
+use column_type::Stored;
 use common::Refusal;
 use order::Fits;
 use value::Cell;
@@ -11,8 +11,8 @@ ghost use lib.ListN.{length};
 ghost use Rattle.common.specs.Lists.{from};
 ghost use Rattle.common.specs.Answers.{cell, refusalOf, each};
 ghost use Rattle.order.specs.Order.{fitsAs};
-ghost use Rattle.column.specs.Cells.{stored};
-ghost use Rattle.column.specs.Forms.{typeIn, longIn};
+ghost use Rattle.column_type.specs.Cells.{stored};
+ghost use Rattle.column_type.specs.Forms.{typeIn, longIn};
 ghost use Rattle.cells.specs.Judging.{cellNumber, judgeAnswer};
 ghost use Rattle.cells.specs.inner.Strides.{Handed};
 ghost use Rattle.cells.specs.inner.Limits.{limitsOf, inLimits};

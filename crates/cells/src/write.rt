@@ -1,7 +1,7 @@
 // The writer of a column's cells, which were judged: nothing is judged again.
 use crate::stride;
 use crate::stride::Stride;
-use column::CellForm;
+use column_type::CellForm;
 use value::Cell;
 ghost use mathlib.Core.Path.{_≡_};
 ghost use lib.ListN.{length};

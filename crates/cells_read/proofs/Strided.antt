@@ -6,7 +6,7 @@ use lib.IntN.{ℤ}
 use lib.ListN.{length, set}
 use borrow.Author.Tests.{le-leb}
 use Rattle.common.specs.Lists.{from}
-use Rattle.column.specs.declared.form.CellForm.{CellForm}
+use Rattle.column_type.specs.declared.form.CellForm.{CellForm}
 use Rattle.cells.specs.declared.stride.Stride.{Stride}
 use Rattle.cells.specs.Strides.{formWidth}
 use Rattle.cells.proofs.Each.{from-next, from-done}

@@ -7,9 +7,9 @@ use lib.ListN.{length, set}
 use Rattle.common.specs.Choice.{if_then_else_, _≤?_}
 use Rattle.common.specs.Lists.{from}
 use Rattle.little_endian.specs.Numbers.{numberAt}
-use Rattle.column.specs.declared.form.CellForm.{CellForm}
-use Rattle.column.specs.Cells.{unstored}
-use Rattle.column.specs.Forms.{typeIn}
+use Rattle.column_type.specs.declared.form.CellForm.{CellForm}
+use Rattle.column_type.specs.Cells.{unstored}
+use Rattle.column_type.specs.Forms.{typeIn}
 use Rattle.cells.specs.declared.stride.Stride.{Stride}
 use Rattle.cells.specs.Strides.{handed, formWidth}
 

@@ -1,6 +1,6 @@
 // The reader of a column's cells: each goes to its place among those of all.
 use cells::Stride;
-use column::CellForm;
+use column_type::CellForm;
 ghost use mathlib.Core.Path.{_≡_};
 ghost use mathlib.Core.List.{map};
 ghost use Prim.Native.Nat.{_+_};

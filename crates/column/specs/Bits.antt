@@ -4,11 +4,10 @@ use mathlib.Core.Bool.{Bool, _||_}
 use lib.IntN.{ℤ}
 use mir.Syntax.{w32}
 use mir.Val.{ofZ}
-use Rattle.common.specs.Choice.{if_then_else_, _<?_, _=?_}
-use Rattle.common.specs.Sizes.{maxString}
+use Rattle.common.specs.Choice.{if_then_else_, _=?_}
 use Rattle.common.specs.Answers.{Answer, gives, refused, column}
-use Rattle.column.specs.declared.column.ColumnType.{ColumnType}
-use Rattle.column.specs.declared.column.ColumnType.the-variants.{Int16, Int32, Str, Binary}
+use Rattle.column_type.specs.declared.form.ColumnType.{ColumnType}
+use Rattle.column_type.specs.declared.form.ColumnType.the-variants.{Int16, Int32, Str, Binary}
 
 -- "Any signed 32-bit number may come": its bits, a negative number's by two's complement
 abbrev pub bitsOf : ℤ → ℕ
@@ -41,10 +40,3 @@ typeBits Int16 = 0x502
 typeBits Int32 = 0x104
 typeBits (Str max) = 0xD00 + max
 typeBits Binary = 0x900
-
--- "Str maximum above 255": 19, at the column c
-abbrev pub soundType : ℕ → ColumnType → Answer ColumnType
-soundType c Int16 = gives Int16
-soundType c Int32 = gives Int32
-soundType c (Str max) = if maxString <? max then refused 19 (column c) else gives (Str max)
-soundType c Binary = gives Binary

@@ -8,9 +8,9 @@ use Rattle.common.specs.Choice.{if_then_else_, _<?_, _≤?_, _=?_, _<ℤ?_}
 use Rattle.common.specs.Sizes.{maxBytes}
 use Rattle.common.specs.Answers.{Answer, gives, refused, nowhere, onGiven}
 use Rattle.common.specs.Refusals.{refusedBy}
-use Rattle.column.specs.Bits.{soundType}
-use Rattle.column.specs.declared.column.ColumnType.{ColumnType}
-use Rattle.column.specs.declared.column.ColumnType.the-variants.{Int16, Int32, Str, Binary}
+use Rattle.column_type.specs.Forms.{soundType}
+use Rattle.column_type.specs.declared.form.ColumnType.{ColumnType}
+use Rattle.column_type.specs.declared.form.ColumnType.the-variants.{Int16, Int32, Str, Binary}
 use Rattle.column.specs.declared.column.Column.{Column}
 use Rattle.column.specs.declared.column.ValueRange.{ValueRange}
 use Rattle.column.specs.declared.column.ValueRange.the-variants.{Any, Within}

@@ -1,7 +1,7 @@
 // The check of a value against its column; a text stands beside the value.
 use crate::column::Column;
-use crate::column::ColumnType;
 use crate::column::ValueRange;
+use column_type::ColumnType;
 use common::Refusal;
 use value::ValueRef;
 ghost use mathlib.Core.Path.{_≡_};

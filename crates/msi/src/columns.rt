@@ -16,7 +16,7 @@ ghost use mathlib.Core.Path.{_≡_};
 ghost use Rattle.value.specs.Kinds.{kindOf, numberOf};
 ghost use Rattle.column.specs.Columns.{building, withLocalizable, withNullable, withPrimaryKey, withRange, finished, bitsColumn, bitfieldAnswer};
 ghost use Rattle.column.specs.Check.{checkAnswer};
-ghost use Rattle.column.specs.declared.column.ColumnType.the-variants as types;
+ghost use Rattle.column_type.specs.declared.form.ColumnType.the-variants as types;
 ghost use Rattle.msi_forms.specs.Answers.{flagIn};
 ghost use Rattle.msi_forms.specs.Pools.{referenceIn};
 ghost use Rattle.msi_forms.specs.Columns.{builderIn, builderOut, columnFrom, partsOf, columnIn};

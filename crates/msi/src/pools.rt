@@ -23,7 +23,7 @@ use stringpool::StringRef;
 ghost use mathlib.Core.Path.{_≡_};
 ghost use Rattle.common.specs.Answers.{nowhere, outcome};
 ghost use Rattle.stringpool.specs.Pool.{rooms};
-ghost use Rattle.stringpool.specs.Refs.{reference};
+ghost use Rattle.string_ref.specs.Refs.{reference};
 ghost use Rattle.stringpool.specs.Load.{loadOutcome};
 ghost use Rattle.stringpool.specs.Pages.{newAnswer, setPageAnswer};
 ghost use Rattle.stringpool.specs.Show.{showAnswer, refcountAnswer};

@@ -12,12 +12,11 @@ use msi_forms::values::from_created;
 use msi_forms::values::from_shown;
 use msi_forms::values::plain_in;
 use msi_forms::values::value_in;
-use value::Shown;
-use value::ValueRef;
+use pool_values::Shown;
 ghost use mathlib.Core.Path.{_≡_};
 ghost use Rattle.stringpool.specs.Pool.{rooms};
 ghost use Rattle.value.specs.Kinds.{kindOf, numberOf};
-ghost use Rattle.value.specs.Pooled.{valueKind, valueNumber, createOutcome, removeOutcome, shownAnswer, textAnswer};
+ghost use Rattle.pool_values.specs.Pooled.{valueKind, valueNumber, createOutcome, removeOutcome, shownAnswer, textAnswer};
 ghost use Rattle.msi_forms.specs.Answers.{countIn, handed};
 ghost use Rattle.msi_forms.specs.Pools.{stateIn, poolIn};
 ghost use Rattle.msi_forms.specs.Tables.{cellIn};
@@ -41,7 +40,7 @@ pub extern "C" fn strandroost_create(
 {
     let was = state(pool);
     let value = plain_in(kind, number);
-    from_created(ValueRef::create(value, new, was, lengths, counts, text))
+    from_created(pool_values::create(value, new, was, lengths, counts, text))
 }
 
 // A reference is dropped; any other value leaves the pool as it is.
@@ -60,7 +59,7 @@ pub extern "C" fn strandroost_remove(
 {
     let was = state(pool);
     let value = value_in(kind, number);
-    from_dropped(value.remove(was, lengths, counts, text))
+    from_dropped(pool_values::remove(value, was, lengths, counts, text))
 }
 
 // The value that a cell stands for; where it is a text, `strandroost_to_text` copies it.
@@ -78,7 +77,7 @@ pub extern "C" fn strandroost_to_value(
 {
     let was = state(pool);
     let value = value_in(kind, number);
-    from_shown(value.to_value(was, lengths, counts, text))
+    from_shown(pool_values::to_value(value, was, lengths, counts, text))
 }
 
 // The text of a cell that holds a reference, none of any other.
@@ -97,9 +96,9 @@ pub extern "C" fn strandroost_to_text(
 {
     let was = state(pool);
     let value = value_in(kind, number);
-    let shown = value.to_value(was, lengths, counts, text);
+    let shown = pool_values::to_value(value, was, lengths, counts, text);
     match shown {
         Shown::Refused(why) => refused_count(why),
-        Shown::Value(_) => copied(value.to_text(was, lengths, counts, text), out),
+        Shown::Value(_) => copied(pool_values::to_text(value, was, lengths, counts, text), out),
     }
 }

@@ -5,8 +5,8 @@ use lib.IntN.{pos}
 use Rattle.common.specs.Choice.{if_then_else_, _=?_}
 use Rattle.common.specs.Answers.{Answer}
 use Rattle.column.specs.Columns.{building, finished}
-use Rattle.column.specs.declared.column.ColumnType.{ColumnType}
-use Rattle.column.specs.declared.column.ColumnType.the-variants as types
+use Rattle.column_type.specs.declared.form.ColumnType.{ColumnType}
+use Rattle.column_type.specs.declared.form.ColumnType.the-variants as types
 use Rattle.column.specs.declared.column.ValueRange.{ValueRange}
 use Rattle.column.specs.declared.column.ValueRange.the-variants.{Any, Within}
 use Rattle.column.specs.declared.column.Column.{Column}

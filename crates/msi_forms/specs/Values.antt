@@ -6,8 +6,8 @@ use Rattle.common.specs.Answers.{Answer}
 use Rattle.stringpool.specs.declared.pool.StringPool.{StringPool}
 use Rattle.value.specs.declared.ValueRef.{ValueRef}
 use Rattle.value.specs.declared.ValueRef.the-variants as values
-use Rattle.value.specs.declared.pooled.Value.{Value}
-use Rattle.value.specs.declared.pooled.Value.the-variants as plain
+use Rattle.pool_values.specs.declared.Value.{Value}
+use Rattle.pool_values.specs.declared.Value.the-variants as plain
 use Rattle.msi_forms.specs.Answers.{refusalIn, givenOr}
 use Rattle.msi_forms.specs.Pools.{poolOut, noPool}
 use Rattle.msi_forms.specs.declared.answers.CreateAnswer.{CreateAnswer}

@@ -20,7 +20,7 @@ use stringpool::Written;
 ghost use mathlib.Core.Path.{_≡_};
 ghost use Rattle.common.specs.Answers.{gives};
 ghost use Rattle.common.specs.Refusals.{refusedBy};
-ghost use Rattle.stringpool.specs.Refs.{madeAs};
+ghost use Rattle.string_ref.specs.Refs.{madeAs};
 ghost use Rattle.stringpool.specs.Load.{loadedAs};
 ghost use Rattle.stringpool.specs.Pages.{pooledAs};
 ghost use Rattle.stringpool.specs.Show.{countedAs, showableAs};

@@ -7,13 +7,14 @@ use mathlib.Core.List.{List, [], _++_}
 use lib.ListN.{length, take, drop, getD, replicate, length-append, length-replicate, length-map, List·getD-eq-default}
 use lib.IntN.{ℤ, pos, negsuc, natAbs}
 use lib.Dec.{ltb, leb}
-use borrow.Author.Tests.{leb-true, leb-false, ltb-false, le-leb, lt-leb}
+use borrow.Author.Tests.{leb-true, leb-false, le-leb, lt-leb}
 use Rattle.common.specs.Choice.{if_then_else_, _<?_}
 use Rattle.common.specs.Answers.{Answer, gives, refused, nowhere, onGiven, outcome, refusalOf}
 use Rattle.common.specs.Refusals.{refusedBy}
 use Rattle.common.specs.Lists.{_over_, total}
 use Rattle.stringpool.specs.Pool.{Entry, Rooms, rooms, texts, all, sound, onSound}
-use Rattle.stringpool.specs.Refs.{reference, onReference, referenceTo}
+use Rattle.stringpool.specs.Refs.{onReference}
+use Rattle.string_ref.specs.Refs.{reference}
 use Rattle.stringpool.specs.Show.{showAnswer, refcountAnswer, orEmpty}
 use Rattle.stringpool.specs.inner.Refs.{placeOf}
 use Rattle.stringpool.specs.inner.Sound.{soundB, judgeOf}
@@ -83,38 +84,6 @@ on-reference {A} (pos n) more = go (ltb n 1) (ltb 16777215 n)
     go true b = refl
     go false true = refl
     go false false = refl
-
--- a reference number is that of its place
-reference-at : (r : ℤ) → reference nowhere r ≡ byPlace (placeOf r) (λ k. gives (referenceTo k))
-reference-at (negsuc n) = refl
-reference-at (pos n) = go (ltb n 1) (ltb 16777215 n) refl
-  where
-    go : (a b : Bool) → ltb n 1 ≡ a → (if a || b then refused 8 nowhere else gives (pos n))
-        ≡ byPlace (if a then Outside else (if b then Outside else At (record { 0 = n - 1 }))) (λ k. gives (referenceTo k))
-    go true b e = refl
-    go false true e = refl
-    go false false e = let q : n ≡ n - 1 + 1 = omega (arith, ltb-false n 1 e) in ap (λ (m : ℕ). gives (pos m)) q
-
--- a reference that is made
-pub made-outside : (r : ℤ) → placeOf r ≡ Outside → refused 8 nowhere ≡ reference nowhere r
-made-outside r e = sym (reference-at r ∙ ap (λ (x : Placed). byPlace x (λ k. gives (referenceTo k))) e)
-
-pub made-in : (r r' : ℤ) → r' ≡ r → (k : EntryPlace) → placeOf r ≡ At k → gives r' ≡ reference nowhere r
-made-in r r' q k e =
-    ap gives (q ∙ number r k e) ∙ sym (reference-at r ∙ ap (λ (x : Placed). byPlace x (λ j. gives (referenceTo j))) e)
-  where
-    place : Placed → ℕ
-    place Outside = 0
-    place (At j) = j .0
-
-    number : (r : ℤ) (k : EntryPlace) → placeOf r ≡ At k → r ≡ referenceTo (k .0)
-    number (negsuc n) k h = absurd (let y : _≡_ {A = ℕ} 0 1 = cc in omega arith)
-    number (pos n) k h = go (ltb n 1) (ltb 16777215 n) refl h
-      where
-        go : (a b : Bool) → ltb n 1 ≡ a → (if a then Outside else if b then Outside else At (record { 0 = n - 1 })) ≡ At k → pos n ≡ referenceTo (k .0)
-        go true b f g = absurd (let y : _≡_ {A = ℕ} 0 1 = cc in omega arith)
-        go false true f g = absurd (let y : _≡_ {A = ℕ} 0 1 = cc in omega arith)
-        go false false f g = let m : n - 1 ≡ k .0 = ap place g in let q : n ≡ k .0 + 1 = omega (arith, ltb-false n 1 f) in ap pos q
 
 -- ---- the rooms with entries put back
 
@@ -194,13 +163,6 @@ module _ (p : StringPool) (w : Rooms) (r r' : ℤ) (back : r' ≡ r) where
   count-passed j =
       ap (λ (z : ℤ). onReference z (λ k. gives (countAt (p .«num_strings») (w .counts) k))) back
       ∙ on-same r _ _ (λ k. ap gives (count-same p w (judging p w j .all .fit) k)) ∙ answer-passed p w (onReference r (λ k. gives (Count k))) j
-
--- the refusal of a reference
-pub refused-outside : (r : ℤ) → placeOf r ≡ Outside → refused 8 nowhere ≡ refusalOf (reference nowhere r)
-refused-outside r e = ap refusalOf (made-outside r e)
-
-pub refused-none : (r : ℤ) (k : EntryPlace) → placeOf r ≡ At k → gives tt ≡ refusalOf (reference nowhere r)
-refused-none r k e = ap refusalOf (made-in r r refl k e)
 
 -- a reference that is out of range, past the end, or an entry's
 module _ {A : Type 0} (r : ℤ) (f : ℕ → Answer A) where

@@ -1,25 +1,26 @@
--- The tests of a signed reference number, by its sign.
-use mathlib.Core.Path.{_≡_, refl}
+-- What the checked maker says of a signed reference number, by its sign: its place.
+use mathlib.Core.Path.{_≡_, refl, sym}
+use mathlib.Core.Bool.{Bool, true, false, _||_}
 use Prim.Native.Nat.{ℕ, _-_, _≤_}
-use native.Mathlib.Omega.{arith}
-use mathlib.Core.Bool.{Bool, true, false}
 use lib.IntN.{ℤ, pos, negsuc, natAbs}
-use lib.Dec.{T}
-use lib.Signed.{ltZ, nonNeg}
+use lib.Dec.{T, ltb}
+use lib.Signed.{nonNeg}
 use borrow.Author.Tests.{ltb-false}
+use Rattle.common.specs.Choice.{if_then_else_}
+use Rattle.common.specs.Answers.{gives, refused, Place, nowhere}
+use Rattle.common.proofs.Outcomes.{refused-gives}
+use Rattle.string_ref.specs.Refs.{reference}
 use Rattle.stringpool.specs.inner.Refs.{placeOf}
 use Rattle.stringpool.specs.declared.refs.Placed.the-variants as placed
 
-no-eq : _≡_ {A = Bool} true false → ⊥
-no-eq q = let y : _≡_ {A = ℕ} 0 1 = cc in omega arith
-
-pub low : (z : ℤ) → ltZ z (pos 1) ≡ true → placed.Outside ≡ placeOf z
-low (pos n) e = simp e
-low (negsuc n) e = refl
-
-pub high : (z : ℤ) → ltZ z (pos 1) ≡ false → ltZ (pos 16777215) z ≡ true → placed.Outside ≡ placeOf z
-high (pos n) e f = simp (e, f)
-high (negsuc n) e f = refl
+pub outside : (z : ℤ) {m : ℕ} {at : Place} → refused m at ≡ reference nowhere z → placed.Outside ≡ placeOf z
+outside (negsuc n) e = refl
+outside (pos n) {m} {at} e = go (ltb n 1) (ltb 16777215 n) e
+  where
+    go : (a b : Bool) → refused m at ≡ (if a || b then refused 8 nowhere else gives (pos n)) → placed.Outside ≡ (if a then placed.Outside else if b then placed.Outside else placed.At (record { 0 = n - 1 }))
+    go true b h = refl
+    go false true h = refl
+    go false false h = absurd (refused-gives h)
 
 -- within the limits the number is not negative, and has a place
 pub record Within (z : ℤ) : Type 0 where
@@ -28,11 +29,16 @@ pub record Within (z : ℤ) : Type 0 where
   pub most : natAbs z ≤ 16777215
   pub place : placed.At (record { 0 = natAbs z - 1 }) ≡ placeOf z
 
-pub within : (z : ℤ) → ltZ z (pos 1) ≡ false → ltZ (pos 16777215) z ≡ false → Within z
-within (pos n) e f = record {
-  sign = tt;
-  least = ltb-false n 1 e;
-  most = ltb-false 16777215 n f;
-  place = simp (e, f);
-}
-within (negsuc n) e f = absurd (no-eq e)
+pub within : (z : ℤ) {x : ℤ} → gives x ≡ reference nowhere z → Within z
+within (negsuc n) e = absurd (refused-gives (sym e))
+within (pos n) {x} e = go (ltb n 1) (ltb 16777215 n) refl refl e
+  where
+    go : (a b : Bool) → ltb n 1 ≡ a → ltb 16777215 n ≡ b → gives x ≡ (if a || b then refused 8 nowhere else gives (pos n)) → Within (pos n)
+    go true b f g h = absurd (refused-gives (sym h))
+    go false true f g h = absurd (refused-gives (sym h))
+    go false false f g h = record {
+      sign = tt;
+      least = ltb-false n 1 f;
+      most = ltb-false 16777215 n g;
+      place = simp (f, g);
+    }

@@ -7,10 +7,11 @@ use crate::judge::Judged;
 use crate::judge::judge;
 use crate::pool::StringPool;
 use crate::refs::Placed;
-use crate::refs::StringRef;
+use crate::refs::place;
 use common::Refusal;
 use order::Fits;
 use order::drop_fits;
+use string_ref::StringRef;
 ghost use mathlib.Core.Path.{_≡_};
 ghost use Prim.Native.Nat.{ℕ, _≤_};
 ghost use mathlib.Core.List.{List, []};
@@ -84,7 +85,7 @@ fn drop_sound(p: StringPool, lengths: &[u32], counts: &[u16], r: StringRef, used
         → Planned (outcome (rooms (now (lengths .entry)) (now (counts .entry)) ts) (onReference (r .0) (dropAt p (rooms (now (lengths .entry)) (now (counts .entry)) ts))))
         (droppedBy p a) a (rooms (now (lengths .entry)) (now (counts .entry)) ts) []) ⌝ }
 {
-    let Placed::At(place) = r.place() else {
+    let Placed::At(place) = place(r) else {
         return Plan::Refused(Refusal::ReferenceRange);
     };
     let at = place.0;

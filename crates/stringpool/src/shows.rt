@@ -5,15 +5,18 @@ use crate::judge::Judged;
 use crate::judge::judge;
 use crate::pool::StringPool;
 use crate::refs::Placed;
-use crate::refs::StringRef;
+use crate::refs::place;
 use common::Refusal;
+use string_ref::Made;
+use string_ref::StringRef;
 ghost use mathlib.Core.Path.{_≡_};
 ghost use Prim.Native.Nat.{_≤_};
 ghost use lib.ListN.{length, take};
 ghost use Rattle.common.specs.Lists.{total};
 ghost use Rattle.common.specs.Answers.{gives, nowhere, refusalOf};
 ghost use Rattle.stringpool.specs.Pool.{rooms};
-ghost use Rattle.stringpool.specs.Refs.{onReference, reference};
+ghost use Rattle.stringpool.specs.Refs.{onReference};
+ghost use Rattle.string_ref.specs.Refs.{reference};
 ghost use Rattle.stringpool.specs.Show.{showAnswer, refcountAnswer, orEmpty, showableAs, countedAs};
 ghost use Rattle.stringpool.specs.inner.Show.{partAt, countAt};
 
@@ -47,7 +50,7 @@ impl StringPool {
         let j = judge(self, lengths, counts, text);
         match j {
             Judged::Refused(why) => Showable::Refused(why),
-            Judged::Sound(_) => in_range(StringRef(number)),
+            Judged::Sound(_) => in_range(number),
         }
     }
 
@@ -68,7 +71,7 @@ fn get_sound<'a>(n: usize, lengths: &[u32], text: &'a [u8], r: StringRef) -> &'a
     requires { ⌜ (n ≤ length (now lengths)) × (total (take n (now lengths)) ≤ length (now text)) ⌝ }
     ensures { λ a. ⌜ now a ≡ orEmpty (onReference (r .0) (λ k. gives (partAt n (now (lengths .entry)) (now (text .entry)) k))) ⌝ }
 {
-    let Placed::At(place) = r.place() else {
+    let Placed::At(place) = place(r) else {
         return &text[..0];
     };
     let at = place.0;
@@ -81,13 +84,13 @@ fn get_sound<'a>(n: usize, lengths: &[u32], text: &'a [u8], r: StringRef) -> &'a
 }
 
 // Whether a reference number is in range.
-fn in_range(r: StringRef) -> Showable
-    ensures { λ a. ⌜ showableAs a ≡ refusalOf (reference nowhere (r .0)) ⌝ }
+fn in_range(number: i32) -> Showable
+    ensures { λ a. ⌜ showableAs a ≡ refusalOf (reference nowhere number) ⌝ }
 {
-    let placed = r.place();
-    match placed {
-        Placed::Outside => Showable::Refused(Refusal::ReferenceRange),
-        Placed::At(_) => Showable::Yes,
+    let made = StringRef::new(number);
+    match made {
+        Made::Refused(refusal) => Showable::Refused(refusal),
+        Made::Ref(_) => Showable::Yes,
     }
 }
 
@@ -96,7 +99,7 @@ fn count_sound(n: usize, counts: &[u16], r: StringRef) -> Counted
     requires { ⌜ n ≤ length (now counts) ⌝ }
     ensures { λ a. ⌜ countedAs a ≡ onReference (r .0) (λ k. gives (countAt n (now (counts .entry)) k)) ⌝ }
 {
-    let Placed::At(place) = r.place() else {
+    let Placed::At(place) = place(r) else {
         return Counted::Refused(Refusal::ReferenceRange);
     };
     Counted::Is(count_of(n, counts, place.0))

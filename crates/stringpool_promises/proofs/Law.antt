@@ -8,7 +8,7 @@ use mathlib.Core.List.{List, [], _∷_, _++_, map}
 use lib.ListN.{length, getD, set, length-set}
 use lib.IntN.{ℤ, pos, negsuc, natAbs}
 use lib.Dec.{leb, ltb, eqb, eqb·suc-suc}
-use borrow.Author.Tests.{leb-true, leb-false, eqb-false, le-leb, ltb-true, ltb-false, le-ltb, ne-eqb}
+use borrow.Author.Tests.{leb-true, leb-false, ltb-true, ltb-false, le-ltb, ne-eqb}
 use Rattle.common.specs.Choice.{if_then_else_}
 use Rattle.common.specs.Answers.{Answer, gives, refused, Place, nowhere, onGiven, outcome}
 use Rattle.stringpool.specs.Pool.{Entry, Rooms, entriesOf, putBack, texts, entryRoom, sound, onSound}
@@ -23,7 +23,7 @@ use Rattle.stringpool.specs.declared.pool.StringPool.{StringPool}
 use Rattle.stringpool.proofs.Entries.{length-entries, length-texts-at, length-at}
 use Rattle.common.proofs.Sums.{total-in}
 use Rattle.stringpool_promises.proofs.Lists.{entries-put}
-use Rattle.stringpool.proofs.Sound.{SoundFit, false-true}
+use Rattle.stringpool.proofs.Sound.{SoundFit}
 use Rattle.common.proofs.Outcomes.{Case, no, yes, test, not-true}
 use Rattle.order.specs.Order.{addFits, textFits, dropFits}
 use Rattle.order.proofs.Laws.{ordered, add-fits, text-fits, drop-fits}

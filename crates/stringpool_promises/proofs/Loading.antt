@@ -2,12 +2,12 @@
 use mathlib.Core.Path.{_≡_, refl, sym, ap, ap₂, subst, _∙_}
 use Prim.Native.Nat.{ℕ, zero, suc, _+_, _≤_, _<_}
 use native.Mathlib.Omega.{arith}
-use mathlib.Core.Bool.{Bool, true, false, _&&_, _||_}
+use mathlib.Core.Bool.{Bool, true, false, _&&_}
 use mathlib.Core.List.{List, _∷_}
 use lib.Dec.{ltb, leb, eqb}
 use Rattle.common.specs.Choice.{if_then_else_}
 use Rattle.common.specs.Lists.{_over_, total}
-use Rattle.common.specs.Answers.{Answer, gives, refused, Place, nowhere, outcome, onGiven}
+use Rattle.common.specs.Answers.{Answer, gives, refused, onGiven}
 use Rattle.stringpool.specs.declared.pool.StringPool.{StringPool}
 use lib.ListN.{length, take, drop, length-drop, length-append}
 use lib.Seq.{getD-drop, length-take-le, take-at}
@@ -22,7 +22,7 @@ use Rattle.order.proofs.Laws.{streams-fit, load-fits}
 use Rattle.stringpool.specs.Pool.{Rooms, rooms, entryRoom}
 use Rattle.stringpool.specs.Load.{Found, one, cut, ends, entryIn, onFound, entriesIn, poolEntries, poolFrom, loadEntries, loadAnswer, loadOutcome}
 use Rattle.stringpool.specs.inner.Sound.{smallB, allSmall}
-use Rattle.stringpool.proofs.Sound.{SoundFit, false-true}
+use Rattle.stringpool.proofs.Sound.{SoundFit}
 use Rattle.stringpool_promises.specs.Promises.{LoadsSound}
 use Rattle.stringpool_promises.proofs.Sounds.{fit-sound}
 

@@ -14,12 +14,12 @@ use Rattle.common.specs.Answers.{Answer, gives, refused, cell, onGiven, each, r
 use Rattle.little_endian.specs.Numbers.{bytesOf}
 use Rattle.little_endian.proofs.Laws.{length-bytes}
 use Rattle.value.specs.Handed.{cellOf}
-use Rattle.column.specs.declared.column.ColumnType.{ColumnType}
-use Rattle.column.specs.declared.form.CellForm.{CellForm}
-use Rattle.column.specs.Cells.{width}
-use Rattle.column.specs.Forms.{formFor, plainNumber}
-use Rattle.column.proofs.Cells.{form-width, form-stored, form-unstored}
-use Rattle.column.proofs.Numbers.{fine-number}
+use Rattle.column_type.specs.declared.form.ColumnType.{ColumnType}
+use Rattle.column_type.specs.declared.form.CellForm.{CellForm}
+use Rattle.column_type.specs.Cells.{width}
+use Rattle.column_type.specs.Forms.{formFor, plainNumber}
+use Rattle.column_type.proofs.Cells.{form-width, form-stored, form-unstored}
+use Rattle.column_type.proofs.Numbers.{fine-number}
 use Rattle.cells.specs.declared.stride.Stride.{Stride}
 use Rattle.cells.specs.Strides.{placeIn, formWidth}
 use Rattle.cells.specs.Judging.{cellNumber}

@@ -16,10 +16,10 @@ use Rattle.common.specs.Answers.{Place, nowhere, Answer, gives, refused, cell, 
 use Rattle.common.proofs.Parts.{over-all}
 use Rattle.little_endian.specs.Numbers.{bytesOf, numberAt}
 use Rattle.little_endian.proofs.Laws.{read-back, length-bytes}
-use Rattle.column.specs.declared.column.ColumnType.{ColumnType}
-use Rattle.column.specs.declared.column.ColumnType.the-variants.{Int16, Int32, Str, Binary}
+use Rattle.column_type.specs.declared.form.ColumnType.{ColumnType}
+use Rattle.column_type.specs.declared.form.ColumnType.the-variants.{Int16, Int32, Str, Binary}
 use Rattle.column.specs.declared.column.Column.{Column}
-use Rattle.column.specs.Cells.{width, stored, unstored}
+use Rattle.column_type.specs.Cells.{width, stored, unstored}
 use Rattle.order.specs.Order.{bulkFits}
 use Rattle.order.proofs.Cells.{bulk}
 use Rattle.table.specs.declared.layout.Table.{Table}

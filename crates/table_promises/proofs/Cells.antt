@@ -9,14 +9,14 @@ use lib.IntN.{ℤ, pos, negsuc, _-ℤ_}
 use lib.Signed.{mag}
 use Rattle.common.specs.Choice.{if_then_else_}
 use Rattle.common.specs.Answers.{Place, gives, refused}
-use Rattle.column.specs.declared.column.ColumnType.{ColumnType}
-use Rattle.column.specs.declared.column.ColumnType.the-variants.{Int16, Int32, Str, Binary}
+use Rattle.column_type.specs.declared.form.ColumnType.{ColumnType}
+use Rattle.column_type.specs.declared.form.ColumnType.the-variants.{Int16, Int32, Str, Binary}
 use Rattle.column.specs.Check.{isBinary}
-use Rattle.column.specs.Cells.{width, integer, stored, unstored, integerCell, referenceCell, referenceNumber}
-use Rattle.column.specs.Signed.{biased, unbiased}
-use Rattle.column.proofs.Halves.{sub-is, mag-unbiased, biased-lt, unbiased-biased, biased-unbiased, biased-zero, integer-given, within-range}
-use Rattle.column.proofs.Numbers.{integer-number, reference-number}
-use Rattle.column.proofs.Cells.{reference-any, reference-short}
+use Rattle.column_type.specs.Cells.{width, integer, stored, unstored, integerCell, referenceCell, referenceNumber}
+use Rattle.column_type.specs.Signed.{biased, unbiased}
+use Rattle.column_type.proofs.Halves.{sub-is, mag-unbiased, biased-lt, unbiased-biased, biased-unbiased, biased-zero, integer-given, within-range}
+use Rattle.column_type.proofs.Numbers.{integer-number, reference-number}
+use Rattle.column_type.proofs.Cells.{reference-any, reference-short}
 use Rattle.table_promises.specs.Promises.{same, isSmallest, readsAs, CellReadBack, Int16Kept, FortyThousand}
 
 abbrev nullOr : Bool → ℕ × ℤ → ℕ × ℤ

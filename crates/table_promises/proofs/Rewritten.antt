@@ -14,9 +14,9 @@ use Rattle.common.proofs.Parts.{over-all}
 use Rattle.little_endian.specs.Numbers.{numberAt}
 use Rattle.little_endian.specs.Promises.{AreBytes}
 use Rattle.little_endian.proofs.Laws.{number-lt, write-back}
-use Rattle.column.specs.declared.column.ColumnType.{ColumnType}
+use Rattle.column_type.specs.declared.form.ColumnType.{ColumnType}
 use Rattle.column.specs.Check.{isBinary}
-use Rattle.column.specs.Cells.{width}
+use Rattle.column_type.specs.Cells.{width}
 use Rattle.table.specs.declared.layout.Table.{Table}
 use Rattle.table.specs.Layout.{typesOf}
 use Rattle.table.specs.Rows.{rowSize, typeAt, cellAt, rowByRow}

@@ -9,13 +9,13 @@ use Rattle.common.specs.Choice.{if_then_else_, _=?_, _<ℤ?_}
 use Rattle.common.specs.Lists.{_over_}
 use Rattle.common.specs.Answers.{Place, gives, refused, cell}
 use Rattle.little_endian.specs.Promises.{AreBytes}
-use Rattle.column.specs.declared.column.ColumnType.{ColumnType}
-use Rattle.column.specs.declared.column.ColumnType.the-variants.{Int16, Int32, Str, Binary}
+use Rattle.column_type.specs.declared.form.ColumnType.{ColumnType}
+use Rattle.column_type.specs.declared.form.ColumnType.the-variants.{Int16, Int32, Str, Binary}
 use Rattle.column.specs.declared.column.Column.{Column}
 use Rattle.column.specs.declared.column.ColumnBuilder.{ColumnBuilder}
 use Rattle.column.specs.Columns.{bitsColumn, bitfieldAnswer}
 use Rattle.column.specs.Check.{isBinary}
-use Rattle.column.specs.Cells.{stored, unstored}
+use Rattle.column_type.specs.Cells.{stored, unstored}
 use Rattle.table.specs.declared.layout.Table.{Table}
 use Rattle.table.specs.Layout.{typesOf}
 use Rattle.table.specs.Rows.{rowSize, typeAt, rowByRow}

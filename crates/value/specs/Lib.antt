@@ -1,4 +1,2 @@
 pub mod Kinds
 pub mod Handed
-pub mod Pooled
-pub mod inner

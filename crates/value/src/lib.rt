@@ -1,10 +1,5 @@
 // What a cell of a table holds: `ValueRef` on reading, and a cell as it is handed over for writing.
-mod pooled;
-
-pub use crate::pooled::Created;
-pub use crate::pooled::Shown;
-pub use crate::pooled::Value;
-use stringpool::StringRef;
+use string_ref::StringRef;
 ghost use mathlib.Core.Path.{_≡_};
 ghost use Rattle.value.specs.Kinds.{kindOf, numberOf};
 ghost use Rattle.value.specs.Handed.{cellOf};

@@ -1,9 +1,9 @@
 // create and remove, in rooms for two entries and three bytes.
+use pool_values::Created;
+use pool_values::Value;
 use stringpool::Dropped;
 use stringpool::StringPool;
 use stringpool::StringRef;
-use value::Created;
-use value::Value;
 use value::ValueRef;
 
 struct Lent {
@@ -56,7 +56,7 @@ fn create(label: &[u8], s: Lent, value: Value, new: &[u8]) -> Lent {
     let mut text = s.text;
     let before = s.pool;
     show::words(label);
-    let created = ValueRef::create(value, new, before, &mut lengths, &mut counts, &mut text);
+    let created = pool_values::create(value, new, before, &mut lengths, &mut counts, &mut text);
     let pool = answered(created, before);
     rooms(&lengths, &counts, &text);
     Lent {
@@ -79,7 +79,7 @@ fn remove(label: &[u8], s: Lent, value: ValueRef) {
     let mut counts = s.counts;
     let mut text = s.text;
     show::words(label);
-    left(value.remove(s.pool, &mut lengths, &mut counts, &mut text));
+    left(pool_values::remove(value, s.pool, &mut lengths, &mut counts, &mut text));
     rooms(&lengths, &counts, &text);
 }
 

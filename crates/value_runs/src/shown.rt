@@ -1,9 +1,9 @@
 // to_value and to_text, and a new text where 65,535 short references are in use.
+use pool_values::Created;
+use pool_values::Shown;
+use pool_values::Value;
 use stringpool::StringPool;
 use stringpool::StringRef;
-use value::Created;
-use value::Shown;
-use value::Value;
 use value::ValueRef;
 
 fn pool_of(num_strings: usize) -> StringPool {
@@ -39,9 +39,9 @@ fn show_in(label: &[u8], entries: usize, v: ValueRef) {
     let counts = [1u16];
     let text = [0x41u8, 0x42, 0xEE];
     show::words(label);
-    answered(v.to_value(pool_of(entries), &lengths, &counts, &text));
+    answered(pool_values::to_value(v, pool_of(entries), &lengths, &counts, &text));
     show::words(b", text");
-    show::bytes(v.to_text(pool_of(entries), &lengths, &counts, &text));
+    show::bytes(pool_values::to_text(v, pool_of(entries), &lengths, &counts, &text));
     show::newline();
 }
 
@@ -70,7 +70,7 @@ fn full() {
     let mut counts = [1u16; 65536];
     let mut text = [0xEEu8; 2];
     show::words(b"on 65535 times \"\" with short references, create Str \"B\": ");
-    let created = ValueRef::create(
+    let created = pool_values::create(
         Value::Str,
         b"B",
         pool_of(65535),

@@ -3,8 +3,8 @@ use Prim.Native.Nat.{ℕ}
 use mathlib.Core.Bool.{Bool, not, _&&_, _||_}
 use lib.IntN.{ℤ, pos, negsuc}
 use Rattle.common.specs.Choice.{_=?_, _<ℤ?_}
-use Rattle.column.specs.declared.form.CellForm.{CellForm}
-use Rattle.column.specs.declared.form.CellForm.the-variants.{Int16, Int32, ShortRef, LongRef, Binary}
+use Rattle.column_type.specs.declared.form.CellForm.{CellForm}
+use Rattle.column_type.specs.declared.form.CellForm.the-variants.{Int16, Int32, ShortRef, LongRef, Binary}
 use Rattle.cells.specs.declared.judge.Limits.{Limits}
 
 abbrev pub limitsOf : CellForm → Limits

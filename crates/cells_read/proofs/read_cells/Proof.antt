@@ -53,9 +53,6 @@ value-is c =
     let at : l .at ≡ a .start + l .row * formWidth (a .form) = rw w at (l .inv .2) in
     c .read-value .ensures ∙ rw (cell-part (a .form) (a .stream .now) (l .at) k more, at)
 
-width-requires : tie.Need-width-requires Inv-loop μ-loop
-width-requires c κs = tt
-
 loop-holds : tie.Need-loop-holds Inv-loop μ-loop
 loop-holds c = (omega arith, rw zero-mul (omega arith), rw zero-mul (omega arith), refl, refl, rw sub-zero, rw sub-zero)
 
@@ -71,17 +68,8 @@ part-read-value-start c = omega (arith, cell-in c)
 part-read-value-end : tie.Need-part-read-value-end Inv-loop μ-loop
 part-read-value-end c = omega (arith, cell-in c)
 
-read-value-requires : tie.Need-read-value-requires Inv-loop μ-loop
-read-value-requires c κs = tt
-
-kind-requires : tie.Need-kind-requires Inv-loop μ-loop
-kind-requires c κs = tt
-
 slice-write-kinds : tie.Need-slice-write-kinds Inv-loop μ-loop
 slice-write-kinds c = omega (arith, cell-in (c .before .before .before))
-
-number-requires : tie.Need-number-requires Inv-loop μ-loop
-number-requires c κs = tt
 
 mul-t17 : tie.Need-mul-t17 Inv-loop μ-loop
 mul-t17 c =
@@ -95,12 +83,6 @@ slice-set-from-numbers c = omega (arith, cell-in (c .before .before .before .bef
 
 add-cell : tie.Need-add-cell Inv-loop μ-loop
 add-cell c = record { fits = cell-in (c .before .before .before .before) .1 }
-
-add-row : tie.Need-add-row Inv-loop μ-loop
-add-row c = omega arith
-
-loop-less : tie.Need-loop-less Inv-loop μ-loop
-loop-less c = omega arith
 
 loop-again : tie.Need-loop-again Inv-loop μ-loop
 loop-again c =
@@ -119,12 +101,6 @@ loop-again c =
       rw (toZ-ofZ {w = w32} {z = c .number .result} (record { sfits = c .number .ok }), n) (stride-turn (λ i. formCell (a .form) (a .stream .now) (a .start) i .1) (l .cell) (a .run .step) (l .row) (a .run .rows) (l .numbers) h ∙ l .inv .6),
     )
 
-same-length : tie.Need-same-length Inv-loop μ-loop
-same-length c = omega arith
-
-same-length-2 : tie.Need-same-length-2 Inv-loop μ-loop
-same-length-2 c = omega arith
-
 returns : tie.Need-returns Inv-loop μ-loop
 returns c =
     let l = c .before .loop in
@@ -139,22 +115,22 @@ read-cells-spec =
     (tie.spec
     Inv-loop
     μ-loop
-    width-requires
+    (λ c κs. tt)
     loop-holds
     add-end
     sub-read-value
     part-read-value-start
     part-read-value-end
-    read-value-requires
-    kind-requires
+    (λ c κs. tt)
+    (λ c κs. tt)
     slice-write-kinds
-    number-requires
+    (λ c κs. tt)
     mul-t17
     slice-set-from-numbers
     add-cell
-    add-row
-    loop-less
+    (λ c. omega arith)
+    (λ c. omega arith)
     loop-again
-    same-length
-    same-length-2
+    (λ c. omega arith)
+    (λ c. omega arith)
     returns)

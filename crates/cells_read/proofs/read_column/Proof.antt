@@ -2,8 +2,8 @@
 use Rattle.cells_read.specs.inner.Held.{Held}
 use Rattle.cells.proofs.Strides.{is-handed}
 use Rattle.cells_read.proofs.Strided.{cells-read}
-use Rattle.column.proofs.Cells.{width-le}
-use Rattle.column.specs.Forms.{typeIn, longIn}
+use Rattle.column_type.proofs.Cells.{width-le}
+use Rattle.column_type.specs.Forms.{typeIn, longIn}
 use lib.Dec.{leb}
 use lib.ListN.{length}
 use Prim.Native.Nat.{_+_, _*_}
@@ -17,20 +17,11 @@ use borrow.Author.Needs.{needs}
 use Rattle.cells_read.proofs.read_column.Statement.{statement}
 use Rattle.cells_read.proofs.read_column.Tie as tie
 
-is-handed-requires : tie.Need-is-handed-requires
-is-handed-requires c κs = search needs
-
-width-requires : tie.Need-width-requires
-width-requires c κs = search needs
-
 mul-holds : tie.Need-mul-holds
 mul-holds c =
     let a = c .before .before .before .before .before .before .args in
     let h = is-handed (a .run) _ _ (sym (c .before .before .before .is-handed .ensures) ∙ c .before .before .if1 .taken) in
     omega (arith, mul-le-mul-right {m = a .run .rows} {n = 65536} (c .before .width .result) (h .few), c .before .width .ensures, width-le (typeIn (a .form)) (longIn (a .form)))
-
-holds-requires : tie.Need-holds-requires
-holds-requires c κs = search needs
 
 fits : (c : tie.After-read-form-arg2) → let a = c .before .before .before .before .before .before .before .before .before .before .args in Held (a .form) (length (a .stream .now)) (a .start) (length (a .kinds .now)) (length (a .numbers .now)) (a .run)
 fits c =
@@ -40,12 +31,6 @@ fits c =
 
 read-form-requires : tie.Need-read-form-requires
 read-form-requires c κs = fits c
-
-same-length : tie.Need-same-length
-same-length c = search needs
-
-same-length-2 : tie.Need-same-length-2
-same-length-2 c = search needs
 
 returns : tie.Need-returns
 returns c =
@@ -65,13 +50,13 @@ pub read-column-spec : {M : Type 1} → statement M
 read-column-spec =
     tie.close
     (tie.spec
-    is-handed-requires
-    width-requires
+    (λ c κs. search needs)
+    (λ c κs. search needs)
     mul-holds
-    holds-requires
+    (λ c κs. search needs)
     read-form-requires
-    same-length
-    same-length-2
+    (λ c. search needs)
+    (λ c. search needs)
     returns
     returns-2
     returns-3)

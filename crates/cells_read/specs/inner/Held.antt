@@ -1,6 +1,6 @@
 -- What the loop over a column is handed.
 use Prim.Native.Nat.{ℕ, _+_, _*_, _≤_}
-use Rattle.column.specs.declared.form.CellForm.{CellForm}
+use Rattle.column_type.specs.declared.form.CellForm.{CellForm}
 use Rattle.cells.specs.declared.stride.Stride.{Stride}
 use Rattle.cells.specs.Strides.{formWidth}
 use Rattle.cells.specs.inner.Strides.{Handed}

@@ -7,20 +7,8 @@ use borrow.Author.Needs.{needs}
 use Rattle.little_endian.proofs.byte_at.Statement.{statement}
 use Rattle.little_endian.proofs.byte_at.Tie as tie
 
-sub-if2 : tie.Need-sub-if2
-sub-if2 c = search needs
-
-add-result : tie.Need-add-result
-add-result c = search needs
-
-shared-slice-read-result : tie.Need-shared-slice-read-result
-shared-slice-read-result c = search needs
-
 cast-result : tie.Need-cast-result
 cast-result c = omega (arith, c .shared-slice-known .given (c .before .before .before .args .at + c .before .before .before .args .i))
-
-returns : tie.Need-returns
-returns c = search needs
 
 returns-2 : tie.Need-returns-2
 returns-2 c = sym (List·getD-eq-default (now (c .before .before .args .bytes)) 0 (omega arith))
@@ -31,4 +19,4 @@ returns-3 c = sym (List·getD-eq-default (now (c .before .args .bytes)) 0 (omega
 pub byte-at-spec : {M : Type 1} → statement M
 byte-at-spec =
     tie.close
-    (tie.spec sub-if2 add-result shared-slice-read-result cast-result returns returns-2 returns-3)
+    (tie.spec (λ c. search needs) (λ c. search needs) (λ c. search needs) cast-result (λ c. search needs) returns-2 returns-3)

@@ -23,20 +23,11 @@ next c = bytes-next _ _ _ (c .loop-test .taken)
 loop-holds : tie.Need-loop-holds Inv-loop μ-loop
 loop-holds c = (omega arith, rw sub-zero (begin (rw length-bytes (c .pre))))
 
-cast-out : tie.Need-cast-out Inv-loop μ-loop
-cast-out c = omega arith
-
 add-out : tie.Need-add-out Inv-loop μ-loop
 add-out c = omega (arith, kept (c .before .loop .inv .1), room (c .before .loop .inv .1) (next c))
 
 slice-write-out : tie.Need-slice-write-out Inv-loop μ-loop
 slice-write-out c = room (c .before .loop .inv .1) (next c)
-
-add-i : tie.Need-add-i Inv-loop μ-loop
-add-i c = omega arith
-
-loop-less : tie.Need-loop-less Inv-loop μ-loop
-loop-less c = omega arith
 
 loop-again : tie.Need-loop-again Inv-loop μ-loop
 loop-again c = (omega arith, step (c .before .loop .inv .1) (next c) _ refl)
@@ -54,11 +45,11 @@ put-spec =
     Inv-loop
     μ-loop
     loop-holds
-    cast-out
+    (λ c. omega arith)
     add-out
     slice-write-out
-    add-i
-    loop-less
+    (λ c. omega arith)
+    (λ c. omega arith)
     loop-again
     same-length
     returns)

@@ -15,9 +15,6 @@ Inv-loop bytes at width value₀ left₀ value left = (left ≤ left₀) × (val
 abbrev μ-loop : tie.MeasureT-loop
 μ-loop bytes at width value₀ left₀ value left = left
 
-at-most-four-requires : tie.Need-at-most-four-requires Inv-loop μ-loop
-at-most-four-requires c κs = tt
-
 byte : (k : tie.After-shared-slice-known Inv-loop μ-loop) → AreBytes (now (k .before .args .bytes))
 byte k i = omega (arith, k .shared-slice-known .given i)
 
@@ -31,20 +28,11 @@ small c =
 loop-holds : tie.Need-loop-holds Inv-loop μ-loop
 loop-holds c = (omega arith, rw sub-self)
 
-sub-left : tie.Need-sub-left Inv-loop μ-loop
-sub-left c = omega arith
-
 mul-value : tie.Need-mul-value Inv-loop μ-loop
 mul-value c = omega (arith, small c)
 
-byte-at-requires : tie.Need-byte-at-requires Inv-loop μ-loop
-byte-at-requires c κs = omega arith
-
 add-value : tie.Need-add-value Inv-loop μ-loop
 add-value c = omega (arith, small (c .before), byte (c .before .before .before .before) (c .before .before .before .before .before .args .at + (c .before .before .loop .left - 1)))
-
-loop-less : tie.Need-loop-less Inv-loop μ-loop
-loop-less c = omega arith
 
 loop-again : tie.Need-loop-again Inv-loop μ-loop
 loop-again c =
@@ -64,12 +52,12 @@ read-spec =
     (tie.spec
     Inv-loop
     μ-loop
-    at-most-four-requires
+    (λ c κs. tt)
     loop-holds
-    sub-left
+    (λ c. omega arith)
     mul-value
-    byte-at-requires
+    (λ c κs. omega arith)
     add-value
-    loop-less
+    (λ c. omega arith)
     loop-again
     returns)

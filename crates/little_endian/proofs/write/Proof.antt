@@ -8,17 +8,8 @@ use Rattle.little_endian.proofs.write.Tie as tie
 returns : tie.Need-returns
 returns c = no-room _ _ _ _ (omega arith)
 
-sub-if2 : tie.Need-sub-if2
-sub-if2 c = search needs
-
 returns-2 : tie.Need-returns-2
 returns-2 c = no-room _ _ _ _ (omega arith)
-
-put-requires : tie.Need-put-requires
-put-requires c κs = search needs
-
-same-length : tie.Need-same-length
-same-length c = search needs
 
 returns-3 : tie.Need-returns-3
 returns-3 c =
@@ -26,4 +17,4 @@ returns-3 c =
     written (a .number) (a .width) (now (a .out)) (a .at) _ (omega arith) (c .before .before .put .ensures)
 
 pub write-spec : {M : Type 1} → statement M
-write-spec = tie.close (tie.spec returns sub-if2 returns-2 put-requires same-length returns-3)
+write-spec = tie.close (tie.spec returns (λ c. search needs) returns-2 (λ c κs. search needs) (λ c. search needs) returns-3)

@@ -39,39 +39,15 @@ cell-is : (c : tie.After-read-cell)
     → cellReadAs (c .read-cell .result) ≡ gives (cellAt (typesOf (c .before .before .before .before .before .before .before .before .args .table)) (c .before .before .before .before .before .before .before .before .args .table .«long_string_refs») (c .before .before .before .before .counted2 .given .0 .0) (c .before .before .before .before .before .before .before .before .args .stream .now) (c .before .before .before .before .before .before .before .before .args .at / c .before .before .before .before .before .before .before .before .args .table .count) (c .before .before .before .before .before .before .before .before .args .at % c .before .before .before .before .before .before .before .before .args .table .count))
 cell-is c = c .read-cell .ensures ∙ rw (rows-are (c .before .before .before), lt-ltb _ _ (c .before .if2 .left), lt-ltb _ _ (mod-lt (c .before .before .before .before .before .before .before .before .args .at) (positive _ (c .before .before .if1 .left))))
 
-num-rows-requires : tie.Need-num-rows-requires
-num-rows-requires c κs = search needs
-
-enum-known-counted : tie.Need-enum-known-counted
-enum-known-counted c = search needs
-
-enum-known-counted-2 : tie.Need-enum-known-counted-2
-enum-known-counted-2 c = search needs
-
 returns : tie.Need-returns
 returns c =
     let z : c .before .before .counted2 .given .0 .0 * c .before .before .before .before .before .before .args .table .count ≡ 0 = rw (c .if1 .taken, mul-zero) in
     sym (step-end (c .before .before .before .before .before .before .args .table) (c .before .before .before .before .before .before .args .stream .now) (c .before .before .before .before .before .before .args .at) (c .before .before .counted2 .given .0 .0) (rows-are (c .before)) (omega arith))
 
-div-row : tie.Need-div-row
-div-row c = search needs
-
 returns-2 : tie.Need-returns-2
 returns-2 c =
     let a = c .before .before .before .before .before .before .before .args in
     sym (step-end (a .table) (a .stream .now) (a .at) (c .before .before .before .counted2 .given .0 .0) (rows-are (c .before .before)) (step-past (a .table) (a .stream .now) (a .at) (c .before .before .before .counted2 .given .0 .0) (rows-are (c .before .before)) (positive _ (c .before .if1 .left)) (c .if2 .taken)))
-
-rem-read-cell : tie.Need-rem-read-cell
-rem-read-cell c = search needs
-
-read-cell-requires : tie.Need-read-cell-requires
-read-cell-requires c κs = search needs
-
-enum-known-read : tie.Need-enum-known-read
-enum-known-read c = search needs
-
-enum-known-read-2 : tie.Need-enum-known-read-2
-enum-known-read-2 c = search needs
 
 add-t21 : tie.Need-add-t21
 add-t21 c = omega (arith, here (c .before .before .before .before) .0, few (c .before .before .before .before .before .before))
@@ -93,16 +69,16 @@ pub next-at-spec : {M : Type 1} → statement M
 next-at-spec =
     tie.close
     (tie.spec
-    num-rows-requires
-    enum-known-counted
-    enum-known-counted-2
+    (λ c κs. search needs)
+    (λ c. search needs)
+    (λ c. search needs)
     returns
-    div-row
+    (λ c. search needs)
     returns-2
-    rem-read-cell
-    read-cell-requires
-    enum-known-read
-    enum-known-read-2
+    (λ c. search needs)
+    (λ c κs. search needs)
+    (λ c. search needs)
+    (λ c. search needs)
     add-t21
     returns-3
     returns-4

@@ -17,12 +17,6 @@ measured k = rw (k .before .strip .ensures) at (k .decoded-bound .ensures)
 returns : tie.Need-returns
 returns c = decode-over (now (c .before .before .before .args .stored)) (now (c .before .before .before .args .out)) (c .if1 .taken)
 
-strip-requires : tie.Need-strip-requires
-strip-requires c κs = search needs
-
-decoded-bound-requires : tie.Need-decoded-bound-requires
-decoded-bound-requires c κs = search needs
-
 returns-2 : tie.Need-returns-2
 returns-2 c = decode-long (now (c .before .before .before .before .before .before .args .stored)) (now (c .before .before .before .before .before .before .args .out)) (c .before .before .before .if1 .left) (omega (arith, measured (c .before) .1 .past (omega arith)))
 
@@ -31,12 +25,6 @@ returns-3 c = decode-short (now (c .before .before .before .before .before .befo
 
 write-decoded-requires : tie.Need-write-decoded-requires
 write-decoded-requires c κs = omega (arith, c .before .before .before .decoded-bound .ensures .0 .above)
-
-is-table-name-requires : tie.Need-is-table-name-requires
-is-table-name-requires c κs = search needs
-
-same-length : tie.Need-same-length
-same-length c = search needs
 
 returns-4 : tie.Need-returns-4
 returns-4 c =
@@ -50,11 +38,11 @@ decode-spec =
     tie.close
     (tie.spec
     returns
-    strip-requires
-    decoded-bound-requires
+    (λ c κs. search needs)
+    (λ c κs. search needs)
     returns-2
     returns-3
     write-decoded-requires
-    is-table-name-requires
-    same-length
+    (λ c κs. search needs)
+    (λ c. search needs)
     returns-4)

@@ -26,9 +26,6 @@ table-fits c = omega (arith, rw (c .if3 .taken) at (fits (c .before)))
 returns : tie.Need-returns
 returns c = encode-over (Name (c .before .before .before)) (c .before .before .before .args .is-table) (Out (c .before .before .before)) (c .if1 .taken)
 
-encoded-bound-requires : tie.Need-encoded-bound-requires
-encoded-bound-requires c κs = search needs
-
 returns-2 : tie.Need-returns-2
 returns-2 c = encode-short (Name (c .before .before .before .before .before)) (c .before .before .before .before .before .args .is-table) (Out (c .before .before .before .before .before)) (c .before .before .if1 .left) (omega (arith, c .before .encoded-bound .ensures .past (omega arith)))
 
@@ -40,9 +37,6 @@ sub-write-encoded c = simp length-set (omega (arith, table-fits c))
 
 part-write-encoded-start : tie.Need-part-write-encoded-start
 part-write-encoded-start c = simp length-set (omega (arith, table-fits c))
-
-part-write-encoded-end : tie.Need-part-write-encoded-end
-part-write-encoded-end c = search needs
 
 write-encoded-requires : tie.Need-write-encoded-requires
 write-encoded-requires c κs = omega (arith, table-fits (c .before), length-rest (Out (c .before .before .before .before .before .before .before)) 0x4840)
@@ -64,9 +58,6 @@ returns-3 c =
     encode-done (Name s) (s .args .is-table) (Out s) (c .before .before .before .before .before .before .before .if1 .left) _ _ (fits (c .before .before .before .before .before)) (rw t (omega (arith, put .ends)))
     (rw t (prefixed (Out s) 0x4840 (encoded (Name s)) _ (omega (arith, table-fits (c .before .before .before .before))) (put .stands)))
 
-same-length-2 : tie.Need-same-length-2
-same-length-2 c = search needs
-
 returns-4 : tie.Need-returns-4
 returns-4 c =
     let s = c .before .before .before .before .before .before .before .before .before .before in
@@ -79,16 +70,16 @@ encode-spec =
     tie.close
     (tie.spec
     returns
-    encoded-bound-requires
+    (λ c κs. search needs)
     returns-2
     slice-write-out
     sub-write-encoded
     part-write-encoded-start
-    part-write-encoded-end
+    (λ c. search needs)
     write-encoded-requires
     add-t13
     same-length
     returns-3
     write-encoded-requires-2
-    same-length-2
+    (λ c. search needs)
     returns-4)

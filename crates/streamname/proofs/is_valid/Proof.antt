@@ -11,14 +11,8 @@ returns c = simp (lt-ltb _ _ (c .if1 .taken))
 returns-2 : tie.Need-returns-2
 returns-2 c = simp (le-ltb _ _ (c .before .if1 .left), eq-eqb _ _ (c .if2 .taken))
 
-keeps-flag-requires : tie.Need-keeps-flag-requires
-keeps-flag-requires c κs = search needs
-
 returns-3 : tie.Need-returns-3
 returns-3 c = simp (le-ltb _ _ (c .before .before .before .if1 .left), ne-eqb _ _ (c .before .before .if2 .left), sym (c .before .keeps-flag .ensures) ∙ true-not _ (c .if3 .taken))
-
-encoded-units-requires : tie.Need-encoded-units-requires
-encoded-units-requires c κs = search needs
 
 returns-4 : tie.Need-returns-4
 returns-4 c = simp (le-ltb _ _ (c .before .before .before .before .before .if1 .left), ne-eqb _ _ (c .before .before .before .before .if2 .left), sym (c .before .before .before .keeps-flag .ensures) ∙ not-true _ (c .before .before .if3 .left), lt-leb _ _ (rw (c .before .encoded-units .ensures) at (c .if4 .taken)))
@@ -32,8 +26,8 @@ is-valid-spec =
     (tie.spec
     returns
     returns-2
-    keeps-flag-requires
+    (λ c κs. search needs)
     returns-3
-    encoded-units-requires
+    (λ c κs. search needs)
     returns-4
     returns-5)

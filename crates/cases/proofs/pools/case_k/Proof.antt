@@ -5,11 +5,8 @@ use borrow.Author.Needs.{needs}
 use Rattle.cases.proofs.pools.case_k.Statement.{statement}
 use Rattle.cases.proofs.pools.case_k.Tie as tie
 
-load-k-requires : tie.Need-load-k-requires
-load-k-requires c κs = search needs
-
 returns : tie.Need-returns
 returns c = ap poolIn (c .load-k .ensures) ∙ says 10
 
 pub case-k-spec : {M : Type 1} → statement M
-case-k-spec = tie.close (tie.spec load-k-requires returns)
+case-k-spec = tie.close (tie.spec (λ c κs. search needs) returns)

@@ -8,14 +8,8 @@ use borrow.Author.Needs.{needs}
 use Rattle.cases.proofs.tables.case_i.Statement.{statement}
 use Rattle.cases.proofs.tables.case_i.Tie as tie
 
-build-requires : tie.Need-build-requires
-build-requires c κs = search needs
-
-with-bitfield-requires : tie.Need-with-bitfield-requires
-with-bitfield-requires c κs = search needs
-
 returns : tie.Need-returns
 returns c = ap typeIn (c .with-bitfield .ensures ∙ ap (λ (b : ColumnBuilder). bitsColumn b 0 (pos 0x404)) (c .before .build .ensures)) ∙ says 8
 
 pub case-i-spec : {M : Type 1} → statement M
-case-i-spec = tie.close (tie.spec build-requires with-bitfield-requires returns)
+case-i-spec = tie.close (tie.spec (λ c κs. search needs) (λ c κs. search needs) returns)

@@ -7,15 +7,6 @@ use borrow.Author.Needs.{needs}
 use Rattle.cases.proofs.tables.rows.Statement.{statement}
 use Rattle.cases.proofs.tables.rows.Tie as tie
 
-from-bitfields-requires : tie.Need-from-bitfields-requires
-from-bitfields-requires c κs = search needs
-
-slice-aggregate-write-rows : tie.Need-slice-aggregate-write-rows
-slice-aggregate-write-rows c = search needs
-
-write-rows-requires : tie.Need-write-rows-requires
-write-rows-requires c κs = search needs
-
 returns : tie.Need-returns
 returns c =
     let w = c .before .before .before .before .before .args in
@@ -25,4 +16,4 @@ returns c =
 pub rows-spec : {M : Type 1} → statement M
 rows-spec =
     tie.close
-    (tie.spec from-bitfields-requires slice-aggregate-write-rows write-rows-requires returns)
+    (tie.spec (λ c κs. search needs) (λ c. search needs) (λ c κs. search needs) returns)

@@ -2,9 +2,9 @@
 use Rattle.cells.proofs.Limits.{held}
 use Rattle.cells.specs.inner.Limits.{limitsOf, inLimits}
 use Rattle.value.specs.Handed.{cellOf}
-use Rattle.column.proofs.Numbers.{handed-stored}
-use Rattle.column.specs.Cells.{stored}
-use Rattle.column.specs.Forms.{typeIn, longIn, storedAs}
+use Rattle.column_type.proofs.Numbers.{handed-stored}
+use Rattle.column_type.specs.Cells.{stored}
+use Rattle.column_type.specs.Forms.{typeIn, longIn, storedAs}
 use Rattle.common.specs.Answers.{refusalOf, cell}
 use mir.Facts.{toZ-ofZ}
 use mir.Syntax.{w32}
@@ -23,27 +23,12 @@ said c =
     let made : c .before .new .result ≡ cellOf (a .kind) (a .number) = rw n at (c .before .new .ensures) in
     ap refusalOf (rw made at (c .stored .ensures) ∙ handed-stored (longIn (a .form)) (cell (a .row) (a .column)) (typeIn (a .form)) (a .kind) (a .number))
 
-within-requires : tie.Need-within-requires
-within-requires c κs = search needs
-
 returns : tie.Need-returns
 returns c =
     let a = c .before .before .args in
     let n = toZ-ofZ {w = w32} {z = a .number} (c .before .before .fits .number) in
     let e : inLimits (limitsOf (a .form)) (a .kind) (a .number) ≡ true = sym (rw (n, c .before .before .pre) at (c .before .within .ensures)) ∙ c .if1 .taken in
     held (cell (a .row) (a .column)) (a .number) (a .form) (a .kind) e
-
-new-requires : tie.Need-new-requires
-new-requires c κs = search needs
-
-stored-requires : tie.Need-stored-requires
-stored-requires c κs = search needs
-
-enum-told : tie.Need-enum-told
-enum-told c = search needs
-
-enum-known-judged : tie.Need-enum-known-judged
-enum-known-judged c = search needs
 
 returns-2 : tie.Need-returns-2
 returns-2 c = sym (ap (λ s. refusalOf (storedAs s)) (c .enum-told .given .1)) ∙ said (c .before .before)
@@ -55,11 +40,11 @@ pub judge-cell-spec : {M : Type 1} → statement M
 judge-cell-spec =
     tie.close
     (tie.spec
-    within-requires
+    (λ c κs. search needs)
     returns
-    new-requires
-    stored-requires
-    enum-told
-    enum-known-judged
+    (λ c κs. search needs)
+    (λ c κs. search needs)
+    (λ c. search needs)
+    (λ c. search needs)
     returns-2
     returns-3)

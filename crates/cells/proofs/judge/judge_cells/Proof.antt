@@ -1,10 +1,10 @@
-use Rattle.column.specs.Cells.{stored}
+use Rattle.column_type.specs.Cells.{stored}
 -- `judge::judge_cells` meets its contract: what the cells that are left say, is what all say. Assumes nothing.
 use Rattle.cells.proofs.Strides.{next-le, next-is}
 use Rattle.cells.proofs.Each.{each-turn, each-stop, each-end}
 use Rattle.cells.specs.Judging.{cellNumber}
 use Rattle.order.specs.Order.{fitsAs}
-use Rattle.column.specs.Forms.{typeIn, longIn}
+use Rattle.column_type.specs.Forms.{typeIn, longIn}
 use Rattle.common.specs.Answers.{refusalOf, each, cell}
 use Rattle.common.specs.Lists.{from}
 use mir.Facts.{toZ-ofZ}
@@ -52,9 +52,6 @@ said c =
     let e : fitsAs (c .judge-cell .result) ≡ refusalOf (stored (typeIn (a .form)) (longIn (a .form)) (cell (l .row) (a .run .column)) k z) = rw (at, same, same-number) at (c .judge-cell .ensures) in
     sym e
 
-limits-of-requires : tie.Need-limits-of-requires Inv-loop μ-loop
-limits-of-requires c κs = tt
-
 loop-holds : tie.Need-loop-holds Inv-loop μ-loop
 loop-holds c = (omega arith, rw zero-mul (omega arith), rw sub-zero)
 
@@ -72,9 +69,6 @@ shared-slice-copy-out-number c = rw (c .before .before .before .before .before .
 judge-cell-requires : tie.Need-judge-cell-requires Inv-loop μ-loop
 judge-cell-requires c κs = c .before .before .before .before .limits-of .ensures
 
-enum-known-verdict : tie.Need-enum-known-verdict Inv-loop μ-loop
-enum-known-verdict c = search needs
-
 returns : tie.Need-returns Inv-loop μ-loop
 returns c =
     let s = c .before .before .before .before .before .before .before .before .before .before in
@@ -83,17 +77,8 @@ returns c =
     (said (c .before .before .before) ∙ ap fitsAs (c .before .verdict .given .1))
     ∙ l .inv .2
 
-enum-told : tie.Need-enum-told Inv-loop μ-loop
-enum-told c = search needs
-
 add-at : tie.Need-add-at Inv-loop μ-loop
 add-at c = record { fits = cell-in (c .before .before .before .before .before) .1 }
-
-add-row : tie.Need-add-row Inv-loop μ-loop
-add-row c = search needs
-
-loop-less : tie.Need-loop-less Inv-loop μ-loop
-loop-less c = search needs
 
 loop-again : tie.Need-loop-again Inv-loop μ-loop
 loop-again c =
@@ -118,17 +103,17 @@ judge-cells-spec =
     (tie.spec
     Inv-loop
     μ-loop
-    limits-of-requires
+    (λ c κs. tt)
     loop-holds
     shared-slice-read-kind
     mul-number
     shared-slice-copy-out-number
     judge-cell-requires
-    enum-known-verdict
+    (λ c. search needs)
     returns
-    enum-told
+    (λ c. search needs)
     add-at
-    add-row
-    loop-less
+    (λ c. search needs)
+    (λ c. search needs)
     loop-again
     returns-2)

@@ -5,9 +5,6 @@ use borrow.Author.Needs.{needs}
 use Rattle.cells.proofs.judge.judge_column.Statement.{statement}
 use Rattle.cells.proofs.judge.judge_column.Tie as tie
 
-is-handed-requires : tie.Need-is-handed-requires
-is-handed-requires c κs = search needs
-
 judge-cells-requires : tie.Need-judge-cells-requires
 judge-cells-requires c κs = is-handed _ _ _ (sym (c .before .is-handed .ensures) ∙ c .if1 .taken)
 
@@ -18,4 +15,4 @@ returns-2 : tie.Need-returns-2
 returns-2 c = rw (sym (c .before .is-handed .ensures) ∙ c .if1 .left)
 
 pub judge-column-spec : {M : Type 1} → statement M
-judge-column-spec = tie.close (tie.spec is-handed-requires judge-cells-requires returns returns-2)
+judge-column-spec = tie.close (tie.spec (λ c κs. search needs) judge-cells-requires returns returns-2)

@@ -3,7 +3,7 @@ use Rattle.cells.proofs.Strides.{next-le, next-is}
 use Rattle.cells.proofs.Strides.{bytes-turn, bytes-end}
 use Rattle.cells.specs.Strides.{formWidth}
 use Rattle.cells.specs.Writing.{plainBytes, bytesFrom}
-use Rattle.column.specs.Forms.{plainNumber}
+use Rattle.column_type.specs.Forms.{plainNumber}
 use Rattle.value.specs.Handed.{cellOf}
 use Rattle.little_endian.proofs.Laws.{length-bytes, written}
 use Rattle.little_endian.specs.Numbers.{bytesOf}
@@ -63,9 +63,6 @@ bytes-is c =
     let e : c .number2 .result ≡ plainNumber (a .form) (cellOf k z) = rw made at (c .number2 .ensures) in
     ap (bytesOf (formWidth (a .form))) e
 
-width-requires : tie.Need-width-requires Inv-loop μ-loop
-width-requires c κs = tt
-
 loop-holds : tie.Need-loop-holds Inv-loop μ-loop
 loop-holds c = (omega arith, rw zero-mul (omega arith), rw zero-mul, refl, rw sub-zero)
 
@@ -80,12 +77,6 @@ mul-number c =
 shared-slice-copy-out-number : tie.Need-shared-slice-copy-out-number Inv-loop μ-loop
 shared-slice-copy-out-number c = rw (c .before .before .before .before .before .before .pre .handed .numbers-are) (rw (c .before .before .before .before .before .before .pre .handed .kinds-are) at (cell-in (c .before) .0))
 
-new-requires : tie.Need-new-requires Inv-loop μ-loop
-new-requires c κs = tt
-
-number-requires : tie.Need-number-requires Inv-loop μ-loop
-number-requires c κs = tt
-
 add-end : tie.Need-add-end Inv-loop μ-loop
 add-end c = omega (arith, room (c .before .before .before .before))
 
@@ -98,17 +89,8 @@ part-write-start c = omega (arith, room (c .before .before .before .before))
 part-write-end : tie.Need-part-write-end Inv-loop μ-loop
 part-write-end c = omega (arith, room (c .before .before .before .before))
 
-write-requires : tie.Need-write-requires Inv-loop μ-loop
-write-requires c κs = tt
-
 add-cell : tie.Need-add-cell Inv-loop μ-loop
 add-cell c = record { fits = cell-in (c .before .before .before .before .before .before .before .before) .1 }
-
-add-row : tie.Need-add-row Inv-loop μ-loop
-add-row c = omega arith
-
-loop-less : tie.Need-loop-less Inv-loop μ-loop
-loop-less c = omega arith
 
 loop-again : tie.Need-loop-again Inv-loop μ-loop
 loop-again c =
@@ -139,9 +121,6 @@ loop-again c =
           ∙ l .inv .4,
     )
 
-same-length : tie.Need-same-length Inv-loop μ-loop
-same-length c = omega arith
-
 returns : tie.Need-returns Inv-loop μ-loop
 returns c =
     let l = c .before .loop in
@@ -154,21 +133,21 @@ write-cells-spec =
     (tie.spec
     Inv-loop
     μ-loop
-    width-requires
+    (λ c κs. tt)
     loop-holds
     shared-slice-read-kind
     mul-number
     shared-slice-copy-out-number
-    new-requires
-    number-requires
+    (λ c κs. tt)
+    (λ c κs. tt)
     add-end
     sub-write
     part-write-start
     part-write-end
-    write-requires
+    (λ c κs. tt)
     add-cell
-    add-row
-    loop-less
+    (λ c. omega arith)
+    (λ c. omega arith)
     loop-again
-    same-length
+    (λ c. omega arith)
     returns)

@@ -1,8 +1,8 @@
 -- `write::write_column` meets its contract. Assumes nothing.
 use Rattle.cells.specs.inner.Strides.{Room}
 use Rattle.cells.proofs.Strides.{is-handed, cells-written}
-use Rattle.column.proofs.Cells.{width-le}
-use Rattle.column.specs.Forms.{typeIn, longIn}
+use Rattle.column_type.proofs.Cells.{width-le}
+use Rattle.column_type.specs.Forms.{typeIn, longIn}
 use lib.ListN.{length}
 use native.Mathlib.Omega.{arith}
 use native.Mathlib.Nat.{mul-le-mul-right}
@@ -11,12 +11,6 @@ use mathlib.Core.Path.{sym, _∙_}
 use borrow.Author.Needs.{needs}
 use Rattle.cells.proofs.write.write_column.Statement.{statement}
 use Rattle.cells.proofs.write.write_column.Tie as tie
-
-is-handed-requires : tie.Need-is-handed-requires
-is-handed-requires c κs = search needs
-
-width-requires : tie.Need-width-requires
-width-requires c κs = search needs
 
 mul-if2 : tie.Need-mul-if2
 mul-if2 c =
@@ -29,9 +23,6 @@ fits c = record { handed = is-handed _ _ _ (sym (c .before .before .before .befo
 
 write-form-requires : tie.Need-write-form-requires
 write-form-requires c κs = fits c
-
-same-length : tie.Need-same-length
-same-length c = search needs
 
 returns : tie.Need-returns
 returns c =
@@ -50,11 +41,11 @@ pub write-column-spec : {M : Type 1} → statement M
 write-column-spec =
     tie.close
     (tie.spec
-    is-handed-requires
-    width-requires
+    (λ c κs. search needs)
+    (λ c κs. search needs)
     mul-if2
     write-form-requires
-    same-length
+    (λ c. search needs)
     returns
     returns-2
     returns-3)

@@ -5,15 +5,6 @@ use borrow.Author.Needs.{needs}
 use Rattle.column.proofs.check.in_range.Statement.{statement}
 use Rattle.column.proofs.check.in_range.Tie as tie
 
-enum-known-range : tie.Need-enum-known-range
-enum-known-range c = search needs
-
-enum-told : tie.Need-enum-told
-enum-told c = search needs
-
-returns : tie.Need-returns
-returns c = search needs
-
 returns-2 : tie.Need-returns-2
 returns-2 c =
     let n = toZ-ofZ {w = w32} {z = c .before .before .before .before .args .n} (c .before .before .before .before .fits .n) in
@@ -36,4 +27,4 @@ returns-4 c =
 
 pub in-range-spec : {M : Type 1} → statement M
 in-range-spec =
-    tie.close (tie.spec enum-known-range enum-told returns returns-2 returns-3 returns-4)
+    tie.close (tie.spec (λ c. search needs) (λ c. search needs) (λ c. search needs) returns-2 returns-3 returns-4)

@@ -16,12 +16,6 @@ Inv-loop s from to out₀ n k₀ out k = (k ≤ n) × Writing out₀ 0 (listed (
 abbrev μ-loop : tie.MeasureT-loop
 μ-loop s from to out₀ n k₀ out k = n - k
 
-pairs-requires : tie.Need-pairs-requires Inv-loop μ-loop
-pairs-requires c κs = search needs
-
-fewer-requires : tie.Need-fewer-requires Inv-loop μ-loop
-fewer-requires c κs = search needs
-
 loop-holds : tie.Need-loop-holds Inv-loop μ-loop
 loop-holds c =
     let n = c .fewer .result in
@@ -39,12 +33,6 @@ pair-requires c κs =
 
 slice-write-out : tie.Need-slice-write-out Inv-loop μ-loop
 slice-write-out c = room-front (c .before .before .loop .inv .1) (listed-next (pairAt (now (c .before .before .before .before .before .before .before .args .s)) (c .before .before .before .before .before .before .before .args .from)) (c .before .before .loop .k) (c .before .before .before .fewer .result) (c .before .loop-test .taken))
-
-add-k : tie.Need-add-k Inv-loop μ-loop
-add-k c = search needs
-
-loop-less : tie.Need-loop-less Inv-loop μ-loop
-loop-less c = search needs
 
 loop-again : tie.Need-loop-again Inv-loop μ-loop
 loop-again c =
@@ -70,13 +58,13 @@ bytes-in-spec =
     (tie.spec
     Inv-loop
     μ-loop
-    pairs-requires
-    fewer-requires
+    (λ c κs. search needs)
+    (λ c κs. search needs)
     loop-holds
     pair-requires
     slice-write-out
-    add-k
-    loop-less
+    (λ c. search needs)
+    (λ c. search needs)
     loop-again
     same-length
     returns)

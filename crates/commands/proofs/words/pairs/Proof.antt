@@ -4,9 +4,6 @@ use borrow.Author.Needs.{needs}
 use Rattle.commands.proofs.words.pairs.Statement.{statement}
 use Rattle.commands.proofs.words.pairs.Tie as tie
 
-byte-requires : tie.Need-byte-requires
-byte-requires c κs = search needs
-
 returns : tie.Need-returns
 returns c = simp (eq-eqb _ _ (sym (c .before .byte .ensures) ∙ c .if1 .taken))
 
@@ -17,4 +14,4 @@ returns-3 : tie.Need-returns-3
 returns-3 c = simp (ne-eqb _ _ (λ e. c .before .if1 .left (c .before .before .byte .ensures ∙ e)), le-ltb _ _ (c .if2 .left))
 
 pub pairs-spec : {M : Type 1} → statement M
-pairs-spec = tie.close (tie.spec byte-requires returns returns-2 returns-3)
+pairs-spec = tie.close (tie.spec (λ c κs. search needs) returns returns-2 returns-3)

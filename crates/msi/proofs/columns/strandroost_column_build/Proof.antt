@@ -4,14 +4,8 @@ use borrow.Author.Needs.{needs}
 use Rattle.msi.proofs.columns.strandroost_column_build.Statement.{statement}
 use Rattle.msi.proofs.columns.strandroost_column_build.Tie as tie
 
-build-requires : tie.Need-build-requires
-build-requires c κs = search needs
-
-builder-out-requires : tie.Need-builder-out-requires
-builder-out-requires c κs = search needs
-
 returns : tie.Need-returns
 returns c = c .builder-out .ensures ∙ ap builderOut (c .before .build .ensures)
 
 pub strandroost-column-build-spec : {M : Type 1} → statement M
-strandroost-column-build-spec = tie.close (tie.spec build-requires builder-out-requires returns)
+strandroost-column-build-spec = tie.close (tie.spec (λ c κs. search needs) (λ c κs. search needs) returns)

@@ -10,15 +10,6 @@ use borrow.Author.Needs.{needs}
 use Rattle.msi.proofs.columns.strandroost_column_from_bitfield.Statement.{statement}
 use Rattle.msi.proofs.columns.strandroost_column_from_bitfield.Tie as tie
 
-builder-in-requires : tie.Need-builder-in-requires
-builder-in-requires c κs = search needs
-
-with-bitfield-requires : tie.Need-with-bitfield-requires
-with-bitfield-requires c κs = search needs
-
-from-made-requires : tie.Need-from-made-requires
-from-made-requires c κs = search needs
-
 returns : tie.Need-returns
 returns c =
     let bits-fits : SFits w32 (c .before .before .before .args .bits) = search needs in
@@ -27,4 +18,4 @@ returns c =
 
 pub strandroost-column-from-bitfield-spec : {M : Type 1} → statement M
 strandroost-column-from-bitfield-spec =
-    tie.close (tie.spec builder-in-requires with-bitfield-requires from-made-requires returns)
+    tie.close (tie.spec (λ c κs. search needs) (λ c κs. search needs) (λ c κs. search needs) returns)

@@ -10,15 +10,6 @@ use borrow.Author.Needs.{needs}
 use Rattle.msi.proofs.columns.strandroost_column_range.Statement.{statement}
 use Rattle.msi.proofs.columns.strandroost_column_range.Tie as tie
 
-builder-in-requires : tie.Need-builder-in-requires
-builder-in-requires c κs = search needs
-
-range-requires : tie.Need-range-requires
-range-requires c κs = search needs
-
-builder-out-requires : tie.Need-builder-out-requires
-builder-out-requires c κs = search needs
-
 returns : tie.Need-returns
 returns c =
     let s = c .before .before .before .args in
@@ -33,4 +24,4 @@ returns c =
 
 pub strandroost-column-range-spec : {M : Type 1} → statement M
 strandroost-column-range-spec =
-    tie.close (tie.spec builder-in-requires range-requires builder-out-requires returns)
+    tie.close (tie.spec (λ c κs. search needs) (λ c κs. search needs) (λ c κs. search needs) returns)

@@ -13,18 +13,6 @@ use borrow.Author.Needs.{needs}
 use Rattle.msi.proofs.columns.strandroost_is_valid_value.Statement.{statement}
 use Rattle.msi.proofs.columns.strandroost_is_valid_value.Tie as tie
 
-column-in-requires : tie.Need-column-in-requires
-column-in-requires c κs = search needs
-
-value-in-requires : tie.Need-value-in-requires
-value-in-requires c κs = search needs
-
-is-valid-value-requires : tie.Need-is-valid-value-requires
-is-valid-value-requires c κs = search needs
-
-from-check-requires : tie.Need-from-check-requires
-from-check-requires c κs = search needs
-
 returns : tie.Need-returns
 returns c =
     let number-fits : SFits w32 (c .before .before .before .before .before .args .number) = search needs in
@@ -37,8 +25,8 @@ pub strandroost-is-valid-value-spec : {M : Type 1} → statement M
 strandroost-is-valid-value-spec =
     tie.close
     (tie.spec
-    column-in-requires
-    value-in-requires
-    is-valid-value-requires
-    from-check-requires
+    (λ c κs. search needs)
+    (λ c κs. search needs)
+    (λ c κs. search needs)
+    (λ c κs. search needs)
     returns)

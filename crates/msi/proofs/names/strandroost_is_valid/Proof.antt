@@ -4,14 +4,8 @@ use Rattle.msi_forms.specs.Answers.{flagIn}
 use Rattle.msi.proofs.names.strandroost_is_valid.Statement.{statement}
 use Rattle.msi.proofs.names.strandroost_is_valid.Tie as tie
 
-is-valid-requires : tie.Need-is-valid-requires
-is-valid-requires c κs = search needs
-
-judged-requires : tie.Need-judged-requires
-judged-requires c κs = search needs
-
 returns : tie.Need-returns
 returns c = c .judged .ensures ∙ ap flagIn (c .before .is-valid .ensures)
 
 pub strandroost-is-valid-spec : {M : Type 1} → statement M
-strandroost-is-valid-spec = tie.close (tie.spec is-valid-requires judged-requires returns)
+strandroost-is-valid-spec = tie.close (tie.spec (λ c κs. search needs) (λ c κs. search needs) returns)

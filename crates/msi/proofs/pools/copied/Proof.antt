@@ -4,20 +4,8 @@ use borrow.Author.Needs.{needs}
 use Rattle.msi.proofs.pools.copied.Statement.{statement}
 use Rattle.msi.proofs.pools.copied.Tie as tie
 
-refused-count-requires : tie.Need-refused-count-requires
-refused-count-requires c κs = search needs
-
 returns : tie.Need-returns
 returns c = copied-short (now (c .before .before .before .before .args .part)) (now (c .before .before .before .before .args .out)) (c .before .if1 .taken) (c .refused-count .ensures)
-
-copy-requires : tie.Need-copy-requires
-copy-requires c κs = search needs
-
-none-requires : tie.Need-none-requires
-none-requires c κs = search needs
-
-same-length : tie.Need-same-length
-same-length c = search needs
 
 returns-2 : tie.Need-returns-2
 returns-2 c =
@@ -27,4 +15,4 @@ returns-2 c =
 pub copied-spec : {M : Type 1} → statement M
 copied-spec =
     tie.close
-    (tie.spec refused-count-requires returns copy-requires none-requires same-length returns-2)
+    (tie.spec (λ c κs. search needs) returns (λ c κs. search needs) (λ c κs. search needs) (λ c. search needs) returns-2)

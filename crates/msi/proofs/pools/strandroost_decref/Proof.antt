@@ -12,24 +12,6 @@ use borrow.Author.Needs.{needs}
 use Rattle.msi.proofs.pools.strandroost_decref.Statement.{statement}
 use Rattle.msi.proofs.pools.strandroost_decref.Tie as tie
 
-state-requires : tie.Need-state-requires
-state-requires c κs = search needs
-
-decref-requires : tie.Need-decref-requires
-decref-requires c κs = search needs
-
-from-dropped-requires : tie.Need-from-dropped-requires
-from-dropped-requires c κs = search needs
-
-same-length : tie.Need-same-length
-same-length c = search needs
-
-same-length-2 : tie.Need-same-length-2
-same-length-2 c = search needs
-
-same-length-3 : tie.Need-same-length-3
-same-length-3 c = search needs
-
 returns : tie.Need-returns
 returns c =
     let s = c .before .before .before .before .before .before .before .before .before .before .before .before .before .before .before .args in
@@ -42,10 +24,10 @@ pub strandroost-decref-spec : {M : Type 1} → statement M
 strandroost-decref-spec =
     tie.close
     (tie.spec
-    state-requires
-    decref-requires
-    from-dropped-requires
-    same-length
-    same-length-2
-    same-length-3
+    (λ c κs. search needs)
+    (λ c κs. search needs)
+    (λ c κs. search needs)
+    (λ c. search needs)
+    (λ c. search needs)
+    (λ c. search needs)
     returns)

@@ -14,27 +14,6 @@ use borrow.Author.Needs.{needs}
 use Rattle.msi.proofs.pools.strandroost_get.Statement.{statement}
 use Rattle.msi.proofs.pools.strandroost_get.Tie as tie
 
-state-requires : tie.Need-state-requires
-state-requires c κs = search needs
-
-get-refusal-requires : tie.Need-get-refusal-requires
-get-refusal-requires c κs = search needs
-
-enum-known-shown : tie.Need-enum-known-shown
-enum-known-shown c = search needs
-
-refused-count-requires : tie.Need-refused-count-requires
-refused-count-requires c κs = search needs
-
-enum-told : tie.Need-enum-told
-enum-told c = search needs
-
-get-requires : tie.Need-get-requires
-get-requires c κs = search needs
-
-copied-requires : tie.Need-copied-requires
-copied-requires c κs = search needs
-
 returns : tie.Need-returns
 returns c =
     let s = c .before .before .before .before .before .before .before .before .before .before .args in
@@ -45,9 +24,6 @@ returns c =
     let was : c .before .before .before .before .before .state .result ≡ stateIn (s .pool) = c .before .before .before .before .before .state .ensures in
     let shown = showAnswer (stateIn (s .pool)) w z in
     got-refused shown (c .before .before .shown .given .0 .0) (now (s .out)) (ap showableAs (sym (c .before .before .shown .given .1)) ∙ c .before .before .before .before .get-refusal .ensures ∙ ap₂ (λ (p : StringPool) (k : ℤ). refusalOf (showAnswer p w k)) was back) (c .refused-count .ensures)
-
-same-length : tie.Need-same-length
-same-length c = search needs
 
 returns-2 : tie.Need-returns-2
 returns-2 c =
@@ -65,13 +41,13 @@ pub strandroost-get-spec : {M : Type 1} → statement M
 strandroost-get-spec =
     tie.close
     (tie.spec
-    state-requires
-    get-refusal-requires
-    enum-known-shown
-    refused-count-requires
-    enum-told
-    get-requires
-    copied-requires
+    (λ c κs. search needs)
+    (λ c κs. search needs)
+    (λ c. search needs)
+    (λ c κs. search needs)
+    (λ c. search needs)
+    (λ c κs. search needs)
+    (λ c κs. search needs)
     returns
-    same-length
+    (λ c. search needs)
     returns-2)

@@ -15,15 +15,6 @@ use borrow.Author.Needs.{needs}
 use Rattle.msi.proofs.pools.strandroost_get_refusal.Statement.{statement}
 use Rattle.msi.proofs.pools.strandroost_get_refusal.Tie as tie
 
-state-requires : tie.Need-state-requires
-state-requires c κs = search needs
-
-get-refusal-requires : tie.Need-get-refusal-requires
-get-refusal-requires c κs = search needs
-
-from-showable-requires : tie.Need-from-showable-requires
-from-showable-requires c κs = search needs
-
 returns : tie.Need-returns
 returns c =
     let s = c .before .before .before .before .before .before .args in
@@ -36,4 +27,4 @@ returns c =
 
 pub strandroost-get-refusal-spec : {M : Type 1} → statement M
 strandroost-get-refusal-spec =
-    tie.close (tie.spec state-requires get-refusal-requires from-showable-requires returns)
+    tie.close (tie.spec (λ c κs. search needs) (λ c κs. search needs) (λ c κs. search needs) returns)

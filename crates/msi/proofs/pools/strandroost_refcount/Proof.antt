@@ -12,15 +12,6 @@ use borrow.Author.Needs.{needs}
 use Rattle.msi.proofs.pools.strandroost_refcount.Statement.{statement}
 use Rattle.msi.proofs.pools.strandroost_refcount.Tie as tie
 
-state-requires : tie.Need-state-requires
-state-requires c κs = search needs
-
-refcount-requires : tie.Need-refcount-requires
-refcount-requires c κs = search needs
-
-from-counted-requires : tie.Need-from-counted-requires
-from-counted-requires c κs = search needs
-
 returns : tie.Need-returns
 returns c =
     let s = c .before .before .before .before .before .before .args in
@@ -31,4 +22,4 @@ returns c =
 
 pub strandroost-refcount-spec : {M : Type 1} → statement M
 strandroost-refcount-spec =
-    tie.close (tie.spec state-requires refcount-requires from-counted-requires returns)
+    tie.close (tie.spec (λ c κs. search needs) (λ c κs. search needs) (λ c κs. search needs) returns)

@@ -1,4 +1,4 @@
-use Rattle.stringpool.specs.Refs.{reference}
+use Rattle.string_ref.specs.Refs.{reference}
 use Rattle.common.specs.Answers.{nowhere}
 use mir.ValLaws.{toZ-ofZ}
 use mir.Val.{SFits, toZ, ofZ}
@@ -10,12 +10,6 @@ use borrow.Author.Needs.{needs}
 use Rattle.msi.proofs.pools.strandroost_string_ref.Statement.{statement}
 use Rattle.msi.proofs.pools.strandroost_string_ref.Tie as tie
 
-new-requires : tie.Need-new-requires
-new-requires c κs = search needs
-
-from-made-requires : tie.Need-from-made-requires
-from-made-requires c κs = search needs
-
 returns : tie.Need-returns
 returns c =
     let z : ℤ = c .before .before .args .number in
@@ -24,4 +18,4 @@ returns c =
     c .from-made .ensures ∙ ap referenceIn (c .before .new .ensures ∙ ap (reference nowhere) back)
 
 pub strandroost-string-ref-spec : {M : Type 1} → statement M
-strandroost-string-ref-spec = tie.close (tie.spec new-requires from-made-requires returns)
+strandroost-string-ref-spec = tie.close (tie.spec (λ c κs. search needs) (λ c κs. search needs) returns)

@@ -9,18 +9,6 @@ use borrow.Author.Needs.{needs}
 use Rattle.msi.proofs.pools.strandroost_write_pool.Statement.{statement}
 use Rattle.msi.proofs.pools.strandroost_write_pool.Tie as tie
 
-state-requires : tie.Need-state-requires
-state-requires c κs = search needs
-
-write-pool-requires : tie.Need-write-pool-requires
-write-pool-requires c κs = search needs
-
-from-written-requires : tie.Need-from-written-requires
-from-written-requires c κs = search needs
-
-same-length : tie.Need-same-length
-same-length c = search needs
-
 returns : tie.Need-returns
 returns c =
     let s = c .before .before .before .before .before .before .before .before .before .before .args in
@@ -30,4 +18,4 @@ returns c =
 pub strandroost-write-pool-spec : {M : Type 1} → statement M
 strandroost-write-pool-spec =
     tie.close
-    (tie.spec state-requires write-pool-requires from-written-requires same-length returns)
+    (tie.spec (λ c κs. search needs) (λ c κs. search needs) (λ c κs. search needs) (λ c. search needs) returns)

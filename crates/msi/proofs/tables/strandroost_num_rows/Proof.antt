@@ -4,18 +4,9 @@ use borrow.Author.Needs.{needs}
 use Rattle.msi.proofs.tables.strandroost_num_rows.Statement.{statement}
 use Rattle.msi.proofs.tables.strandroost_num_rows.Tie as tie
 
-table-in-requires : tie.Need-table-in-requires
-table-in-requires c κs = search needs
-
-num-rows-requires : tie.Need-num-rows-requires
-num-rows-requires c κs = search needs
-
-from-rows-requires : tie.Need-from-rows-requires
-from-rows-requires c κs = search needs
-
 returns : tie.Need-returns
 returns c = c .from-rows .ensures ∙ ap countIn (rw (c .before .before .table-in .ensures) at (c .before .num-rows .ensures))
 
 pub strandroost-num-rows-spec : {M : Type 1} → statement M
 strandroost-num-rows-spec =
-    tie.close (tie.spec table-in-requires num-rows-requires from-rows-requires returns)
+    tie.close (tie.spec (λ c κs. search needs) (λ c κs. search needs) (λ c κs. search needs) returns)

@@ -4,21 +4,6 @@ use borrow.Author.Needs.{needs}
 use Rattle.msi.proofs.tables.strandroost_read_rows.Statement.{statement}
 use Rattle.msi.proofs.tables.strandroost_read_rows.Tie as tie
 
-table-in-requires : tie.Need-table-in-requires
-table-in-requires c κs = search needs
-
-read-rows-requires : tie.Need-read-rows-requires
-read-rows-requires c κs = search needs
-
-from-rows-requires : tie.Need-from-rows-requires
-from-rows-requires c κs = search needs
-
-same-length : tie.Need-same-length
-same-length c = search needs
-
-same-length-2 : tie.Need-same-length-2
-same-length-2 c = search needs
-
 returns : tie.Need-returns
 returns c = hands countIn (c .from-rows .ensures) (rw (c .before .before .before .before .before .before .before .table-in .ensures) at (c .before .before .before .before .read-rows .ensures))
 
@@ -26,9 +11,9 @@ pub strandroost-read-rows-spec : {M : Type 1} → statement M
 strandroost-read-rows-spec =
     tie.close
     (tie.spec
-    table-in-requires
-    read-rows-requires
-    from-rows-requires
-    same-length
-    same-length-2
+    (λ c κs. search needs)
+    (λ c κs. search needs)
+    (λ c κs. search needs)
+    (λ c. search needs)
+    (λ c. search needs)
     returns)

@@ -6,34 +6,13 @@ use mir.ValLaws.{toZ-ofZ}
 use denote.Ref.{now}
 use Rattle.stringpool.specs.Pool.{rooms}
 use Rattle.stringpool.specs.declared.pool.StringPool.{StringPool}
-use Rattle.value.specs.declared.pooled.Value.{Value}
-use Rattle.value.specs.Pooled.{valueKind, valueNumber, createOutcome}
+use Rattle.pool_values.specs.declared.Value.{Value}
+use Rattle.pool_values.specs.Pooled.{valueKind, valueNumber, createOutcome}
 use Rattle.msi_forms.specs.Values.{plainIn, createdIn}
 use Rattle.msi.proofs.Handed.{hands}
 use borrow.Author.Needs.{needs}
 use Rattle.msi.proofs.values.strandroost_create.Statement.{statement}
 use Rattle.msi.proofs.values.strandroost_create.Tie as tie
-
-state-requires : tie.Need-state-requires
-state-requires c κs = search needs
-
-plain-in-requires : tie.Need-plain-in-requires
-plain-in-requires c κs = search needs
-
-create-requires : tie.Need-create-requires
-create-requires c κs = search needs
-
-from-created-requires : tie.Need-from-created-requires
-from-created-requires c κs = search needs
-
-same-length : tie.Need-same-length
-same-length c = search needs
-
-same-length-2 : tie.Need-same-length-2
-same-length-2 c = search needs
-
-same-length-3 : tie.Need-same-length-3
-same-length-3 c = search needs
 
 returns : tie.Need-returns
 returns c =
@@ -50,11 +29,11 @@ pub strandroost-create-spec : {M : Type 1} → statement M
 strandroost-create-spec =
     tie.close
     (tie.spec
-    state-requires
-    plain-in-requires
-    create-requires
-    from-created-requires
-    same-length
-    same-length-2
-    same-length-3
+    (λ c κs. search needs)
+    (λ c κs. search needs)
+    (λ c κs. search needs)
+    (λ c κs. search needs)
+    (λ c. search needs)
+    (λ c. search needs)
+    (λ c. search needs)
     returns)

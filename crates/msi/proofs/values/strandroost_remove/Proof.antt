@@ -9,33 +9,12 @@ use Rattle.stringpool.specs.declared.pool.StringPool.{StringPool}
 use Rattle.msi_forms.specs.Pools.{poolIn}
 use Rattle.value.specs.declared.ValueRef.{ValueRef}
 use Rattle.value.specs.Kinds.{kindOf, numberOf}
-use Rattle.value.specs.Pooled.{removeOutcome}
+use Rattle.pool_values.specs.Pooled.{removeOutcome}
 use Rattle.msi_forms.specs.Values.{valueIn}
 use Rattle.msi.proofs.Handed.{hands}
 use borrow.Author.Needs.{needs}
 use Rattle.msi.proofs.values.strandroost_remove.Statement.{statement}
 use Rattle.msi.proofs.values.strandroost_remove.Tie as tie
-
-state-requires : tie.Need-state-requires
-state-requires c κs = search needs
-
-value-in-requires : tie.Need-value-in-requires
-value-in-requires c κs = search needs
-
-remove-requires : tie.Need-remove-requires
-remove-requires c κs = search needs
-
-from-dropped-requires : tie.Need-from-dropped-requires
-from-dropped-requires c κs = search needs
-
-same-length : tie.Need-same-length
-same-length c = search needs
-
-same-length-2 : tie.Need-same-length-2
-same-length-2 c = search needs
-
-same-length-3 : tie.Need-same-length-3
-same-length-3 c = search needs
 
 returns : tie.Need-returns
 returns c =
@@ -52,11 +31,11 @@ pub strandroost-remove-spec : {M : Type 1} → statement M
 strandroost-remove-spec =
     tie.close
     (tie.spec
-    state-requires
-    value-in-requires
-    remove-requires
-    from-dropped-requires
-    same-length
-    same-length-2
-    same-length-3
+    (λ c κs. search needs)
+    (λ c κs. search needs)
+    (λ c κs. search needs)
+    (λ c κs. search needs)
+    (λ c. search needs)
+    (λ c. search needs)
+    (λ c. search needs)
     returns)

@@ -9,37 +9,13 @@ use Rattle.stringpool.specs.declared.pool.StringPool.{StringPool}
 use Rattle.msi_forms.specs.Pools.{stateIn}
 use Rattle.value.specs.declared.ValueRef.{ValueRef}
 use Rattle.value.specs.Kinds.{kindOf, numberOf}
-use Rattle.value.specs.Pooled.{shownAnswer, textAnswer, shownAs}
+use Rattle.pool_values.specs.Pooled.{shownAnswer, textAnswer, shownAs}
 use Rattle.stringpool.specs.Show.{orEmpty}
 use Rattle.msi_forms.specs.Values.{valueIn}
 use Rattle.msi.proofs.Gets.{got-refused, got-given, refusal-said, given-said}
 use borrow.Author.Needs.{needs}
 use Rattle.msi.proofs.values.strandroost_to_text.Statement.{statement}
 use Rattle.msi.proofs.values.strandroost_to_text.Tie as tie
-
-state-requires : tie.Need-state-requires
-state-requires c κs = search needs
-
-value-in-requires : tie.Need-value-in-requires
-value-in-requires c κs = search needs
-
-to-value-requires : tie.Need-to-value-requires
-to-value-requires c κs = search needs
-
-enum-known-shown : tie.Need-enum-known-shown
-enum-known-shown c = search needs
-
-refused-count-requires : tie.Need-refused-count-requires
-refused-count-requires c κs = search needs
-
-enum-told : tie.Need-enum-told
-enum-told c = search needs
-
-to-text-requires : tie.Need-to-text-requires
-to-text-requires c κs = search needs
-
-copied-requires : tie.Need-copied-requires
-copied-requires c κs = search needs
 
 returns : tie.Need-returns
 returns c =
@@ -54,9 +30,6 @@ returns c =
     let told = c .before .before .before .before .to-value .ensures ∙ ap₂ (λ (x : ValueRef) (q : StringPool). shownAnswer (kindOf x) (numberOf x) q w) v (c .before .before .before .before .before .before .state .ensures) in
     let shown = textAnswer (kindOf u) (numberOf u) p w in
     got-refused shown (c .before .before .shown .given .0 .0) (now (s .out)) (refusal-said shown _ (c .before .before .shown .given .0 .0) (ap shownAs (sym (c .before .before .shown .given .1)) ∙ told)) (c .refused-count .ensures)
-
-same-length : tie.Need-same-length
-same-length c = search needs
 
 returns-2 : tie.Need-returns-2
 returns-2 c =
@@ -77,14 +50,14 @@ pub strandroost-to-text-spec : {M : Type 1} → statement M
 strandroost-to-text-spec =
     tie.close
     (tie.spec
-    state-requires
-    value-in-requires
-    to-value-requires
-    enum-known-shown
-    refused-count-requires
-    enum-told
-    to-text-requires
-    copied-requires
+    (λ c κs. search needs)
+    (λ c κs. search needs)
+    (λ c κs. search needs)
+    (λ c. search needs)
+    (λ c κs. search needs)
+    (λ c. search needs)
+    (λ c κs. search needs)
+    (λ c κs. search needs)
     returns
-    same-length
+    (λ c. search needs)
     returns-2)

@@ -8,24 +8,12 @@ use Rattle.stringpool.specs.Pool.{rooms}
 use Rattle.stringpool.specs.declared.pool.StringPool.{StringPool}
 use Rattle.value.specs.declared.ValueRef.{ValueRef}
 use Rattle.value.specs.Kinds.{kindOf, numberOf}
-use Rattle.value.specs.Pooled.{shownAnswer}
+use Rattle.pool_values.specs.Pooled.{shownAnswer}
 use Rattle.msi_forms.specs.Tables.{cellIn}
 use Rattle.msi_forms.specs.Values.{valueIn}
 use borrow.Author.Needs.{needs}
 use Rattle.msi.proofs.values.strandroost_to_value.Statement.{statement}
 use Rattle.msi.proofs.values.strandroost_to_value.Tie as tie
-
-state-requires : tie.Need-state-requires
-state-requires c κs = search needs
-
-value-in-requires : tie.Need-value-in-requires
-value-in-requires c κs = search needs
-
-to-value-requires : tie.Need-to-value-requires
-to-value-requires c κs = search needs
-
-from-shown-requires : tie.Need-from-shown-requires
-from-shown-requires c κs = search needs
 
 returns : tie.Need-returns
 returns c =
@@ -40,4 +28,4 @@ returns c =
 pub strandroost-to-value-spec : {M : Type 1} → statement M
 strandroost-to-value-spec =
     tie.close
-    (tie.spec state-requires value-in-requires to-value-requires from-shown-requires returns)
+    (tie.spec (λ c κs. search needs) (λ c κs. search needs) (λ c κs. search needs) (λ c κs. search needs) returns)

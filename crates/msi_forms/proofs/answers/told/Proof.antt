@@ -5,21 +5,6 @@ use Rattle.msi_forms.specs.Answers.{refusalAt}
 use Rattle.msi_forms.proofs.answers.told.Statement.{statement}
 use Rattle.msi_forms.proofs.answers.told.Tie as tie
 
-number-requires : tie.Need-number-requires
-number-requires c κs = search needs
-
-place-requires : tie.Need-place-requires
-place-requires c κs = search needs
-
-enum-told : tie.Need-enum-told
-enum-told c = search needs
-
-enum-known-place : tie.Need-enum-known-place
-enum-known-place c = search needs
-
-enum-known-place-2 : tie.Need-enum-known-place-2
-enum-known-place-2 c = search needs
-
 returns : tie.Need-returns
 returns c = ap₂ refusalAt (c .before .before .before .number .ensures) (ap placeAs (sym (c .enum-told .given .1)) ∙ c .before .before .place .ensures)
 
@@ -33,11 +18,11 @@ pub told-spec : {M : Type 1} → statement M
 told-spec =
     tie.close
     (tie.spec
-    number-requires
-    place-requires
-    enum-told
-    enum-known-place
-    enum-known-place-2
+    (λ c κs. search needs)
+    (λ c κs. search needs)
+    (λ c. search needs)
+    (λ c. search needs)
+    (λ c. search needs)
     returns
     returns-2
     returns-3)

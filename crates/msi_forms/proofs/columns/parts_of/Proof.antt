@@ -7,15 +7,6 @@ use borrow.Author.Needs.{needs}
 use Rattle.msi_forms.proofs.columns.parts_of.Statement.{statement}
 use Rattle.msi_forms.proofs.columns.parts_of.Tie as tie
 
-range-of-requires : tie.Need-range-of-requires
-range-of-requires c κs = search needs
-
-type-number-requires : tie.Need-type-number-requires
-type-number-requires c κs = search needs
-
-type-maximum-requires : tie.Need-type-maximum-requires
-type-maximum-requires c κs = search needs
-
 returns : tie.Need-returns
 returns c =
     let range = c .before .before .before .range-of .result in
@@ -27,4 +18,4 @@ returns c =
     simp (c .before .before .type-number .ensures, c .before .type-maximum .ensures, min-back ∙ ap (λ (k : RangeParts). k .min) told, max-back ∙ ap (λ (k : RangeParts). k .max) told, ap (λ (k : RangeParts). k .«has_range») told)
 
 pub parts-of-spec : {M : Type 1} → statement M
-parts-of-spec = tie.close (tie.spec range-of-requires type-number-requires type-maximum-requires returns)
+parts-of-spec = tie.close (tie.spec (λ c κs. search needs) (λ c κs. search needs) (λ c κs. search needs) returns)

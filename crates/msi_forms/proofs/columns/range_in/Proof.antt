@@ -14,8 +14,5 @@ returns c =
     let max-back : toZ w32 (ofZ w32 (c .before .before .args .parts .max)) ≡ c .before .before .args .parts .max = toZ-ofZ w32 (c .before .before .args .parts .max) max-fits in
     simp (min-back, max-back, c .before .if1 .taken)
 
-returns-2 : tie.Need-returns-2
-returns-2 c = search needs
-
 pub range-in-spec : {M : Type 1} → statement M
-range-in-spec = tie.close (tie.spec returns returns-2)
+range-in-spec = tie.close (tie.spec returns (λ c. search needs))

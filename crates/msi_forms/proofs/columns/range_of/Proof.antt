@@ -7,15 +7,6 @@ use borrow.Author.Needs.{needs}
 use Rattle.msi_forms.proofs.columns.range_of.Statement.{statement}
 use Rattle.msi_forms.proofs.columns.range_of.Tie as tie
 
-enum-told : tie.Need-enum-told
-enum-told c = search needs
-
-enum-known-value-range : tie.Need-enum-known-value-range
-enum-known-value-range c = search needs
-
-returns : tie.Need-returns
-returns c = simp (c .enum-told .given .1)
-
 returns-2 : tie.Need-returns-2
 returns-2 c =
     let min : ℤ = c .before .value-range .given .0 .0 in
@@ -27,4 +18,4 @@ returns-2 c =
     simp (c .before .value-range .given .1, min-back, max-back)
 
 pub range-of-spec : {M : Type 1} → statement M
-range-of-spec = tie.close (tie.spec enum-told enum-known-value-range returns returns-2)
+range-of-spec = tie.close (tie.spec (λ c. search needs) (λ c. search needs) (λ c. simp (c .enum-told .given .1)) returns-2)

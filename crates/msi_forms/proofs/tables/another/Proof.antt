@@ -7,15 +7,6 @@ use borrow.Author.Needs.{needs}
 use Rattle.msi_forms.proofs.tables.another.Statement.{statement}
 use Rattle.msi_forms.proofs.tables.another.Tie as tie
 
-none-requires : tie.Need-none-requires
-none-requires c κs = search needs
-
-kind-requires : tie.Need-kind-requires
-kind-requires c κs = search needs
-
-number-requires : tie.Need-number-requires
-number-requires c κs = search needs
-
 returns : tie.Need-returns
 returns c =
     let z : ℤ = c .number .result in
@@ -24,4 +15,4 @@ returns c =
     simp (c .before .before .none .ensures, c .before .kind .ensures, z-back ∙ c .number .ensures)
 
 pub another-spec : {M : Type 1} → statement M
-another-spec = tie.close (tie.spec none-requires kind-requires number-requires returns)
+another-spec = tie.close (tie.spec (λ c κs. search needs) (λ c κs. search needs) (λ c κs. search needs) returns)

@@ -8,15 +8,6 @@ use borrow.Author.Needs.{needs}
 use Rattle.msi_forms.proofs.tables.given_cell.Statement.{statement}
 use Rattle.msi_forms.proofs.tables.given_cell.Tie as tie
 
-none-requires : tie.Need-none-requires
-none-requires c κs = search needs
-
-kind-requires : tie.Need-kind-requires
-kind-requires c κs = search needs
-
-number-requires : tie.Need-number-requires
-number-requires c κs = search needs
-
 returns : tie.Need-returns
 returns c =
     let z : ℤ = c .number .result in
@@ -24,4 +15,4 @@ returns c =
     cell-made (c .before .before .before .args .value) (c .before .before .none .ensures) (c .before .kind .ensures) (toZ-ofZ w32 z fits ∙ c .number .ensures)
 
 pub given-cell-spec : {M : Type 1} → statement M
-given-cell-spec = tie.close (tie.spec none-requires kind-requires number-requires returns)
+given-cell-spec = tie.close (tie.spec (λ c κs. search needs) (λ c κs. search needs) (λ c κs. search needs) returns)

@@ -14,12 +14,6 @@ Inv-loop table parts columns₀ c₀ columns c = (c ≤ 64) × (length parts ≡
 abbrev μ-loop : tie.MeasureT-loop
 μ-loop table parts columns₀ c₀ columns c = 64 - c
 
-build-requires : tie.Need-build-requires Inv-loop μ-loop
-build-requires c κs = tt
-
-int16-requires : tie.Need-int16-requires Inv-loop μ-loop
-int16-requires c κs = tt
-
 whole : (c : tie.Start Inv-loop μ-loop) → length (c .args .table .columns) ≡ 64
 whole c = rw length-map at (c .good .0 .1 .1 .0 .1 .0 .1)
 
@@ -27,27 +21,6 @@ loop-holds : tie.Need-loop-holds Inv-loop μ-loop
 loop-holds c =
     let start = c .before .before .before in
     (omega arith, whole start, refl, mapped-begin columnFrom (start .args .table .columns) _ (sym (whole start)))
-
-mul-column-in : tie.Need-mul-column-in Inv-loop μ-loop
-mul-column-in c = omega arith
-
-array-copy-out-column-in : tie.Need-array-copy-out-column-in Inv-loop μ-loop
-array-copy-out-column-in c = omega arith
-
-column-in-requires : tie.Need-column-in-requires Inv-loop μ-loop
-column-in-requires c κs = tt
-
-mul-columns : tie.Need-mul-columns Inv-loop μ-loop
-mul-columns c = omega arith
-
-array-set-from-columns : tie.Need-array-set-from-columns Inv-loop μ-loop
-array-set-from-columns c = omega arith
-
-add-c : tie.Need-add-c Inv-loop μ-loop
-add-c c = omega arith
-
-loop-less : tie.Need-loop-less Inv-loop μ-loop
-loop-less c = omega arith
 
 loop-again : tie.Need-loop-again Inv-loop μ-loop
 loop-again c =
@@ -67,15 +40,15 @@ table-in-spec =
     (tie.spec
     Inv-loop
     μ-loop
-    build-requires
-    int16-requires
+    (λ c κs. tt)
+    (λ c κs. tt)
     loop-holds
-    mul-column-in
-    array-copy-out-column-in
-    column-in-requires
-    mul-columns
-    array-set-from-columns
-    add-c
-    loop-less
+    (λ c. omega arith)
+    (λ c. omega arith)
+    (λ c κs. tt)
+    (λ c. omega arith)
+    (λ c. omega arith)
+    (λ c. omega arith)
+    (λ c. omega arith)
     loop-again
     returns)

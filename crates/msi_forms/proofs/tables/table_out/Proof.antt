@@ -1,5 +1,5 @@
 use Rattle.column.specs.Columns.{building, finished}
-use Rattle.column.specs.declared.column.ColumnType.the-variants.{Int16}
+use Rattle.column_type.specs.declared.form.ColumnType.the-variants.{Int16}
 use mathlib.Core.Path.{_≡_, refl, sym}
 use Prim.Native.Nat.{_-_, _≤_}
 use native.Mathlib.Omega.{arith}
@@ -15,12 +15,6 @@ Inv-loop table columns parts₀ c₀ parts c = (c ≤ 64) × (length columns ≡
 abbrev μ-loop : tie.MeasureT-loop
 μ-loop table columns parts₀ c₀ parts c = 64 - c
 
-build-requires : tie.Need-build-requires Inv-loop μ-loop
-build-requires c κs = tt
-
-builder-out-requires : tie.Need-builder-out-requires Inv-loop μ-loop
-builder-out-requires c κs = tt
-
 whole : (c : tie.Start Inv-loop μ-loop) → length (c .args .table .columns) ≡ 64
 whole c = rw length-map at (c .good .0 .1 .1 .0 .1 .0 .1)
 
@@ -28,27 +22,6 @@ loop-holds : tie.Need-loop-holds Inv-loop μ-loop
 loop-holds c =
     let start = c .before .before .before in
     (omega arith, whole start, refl, mapped-begin partsOf (start .args .table .columns) _ (sym (whole start)))
-
-mul-parts-of : tie.Need-mul-parts-of Inv-loop μ-loop
-mul-parts-of c = omega arith
-
-array-copy-out-parts-of : tie.Need-array-copy-out-parts-of Inv-loop μ-loop
-array-copy-out-parts-of c = omega arith
-
-parts-of-requires : tie.Need-parts-of-requires Inv-loop μ-loop
-parts-of-requires c κs = tt
-
-mul-parts : tie.Need-mul-parts Inv-loop μ-loop
-mul-parts c = omega arith
-
-array-set-from-parts : tie.Need-array-set-from-parts Inv-loop μ-loop
-array-set-from-parts c = omega arith
-
-add-c : tie.Need-add-c Inv-loop μ-loop
-add-c c = omega arith
-
-loop-less : tie.Need-loop-less Inv-loop μ-loop
-loop-less c = omega arith
 
 loop-again : tie.Need-loop-again Inv-loop μ-loop
 loop-again c =
@@ -68,15 +41,15 @@ table-out-spec =
     (tie.spec
     Inv-loop
     μ-loop
-    build-requires
-    builder-out-requires
+    (λ c κs. tt)
+    (λ c κs. tt)
     loop-holds
-    mul-parts-of
-    array-copy-out-parts-of
-    parts-of-requires
-    mul-parts
-    array-set-from-parts
-    add-c
-    loop-less
+    (λ c. omega arith)
+    (λ c. omega arith)
+    (λ c κs. tt)
+    (λ c. omega arith)
+    (λ c. omega arith)
+    (λ c. omega arith)
+    (λ c. omega arith)
     loop-again
     returns)

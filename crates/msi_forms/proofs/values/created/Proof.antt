@@ -7,18 +7,6 @@ use borrow.Author.Needs.{needs}
 use Rattle.msi_forms.proofs.values.created.Statement.{statement}
 use Rattle.msi_forms.proofs.values.created.Tie as tie
 
-none-requires : tie.Need-none-requires
-none-requires c κs = search needs
-
-state-out-requires : tie.Need-state-out-requires
-state-out-requires c κs = search needs
-
-kind-requires : tie.Need-kind-requires
-kind-requires c κs = search needs
-
-number-requires : tie.Need-number-requires
-number-requires c κs = search needs
-
 returns : tie.Need-returns
 returns c =
     let z : ℤ = c .number .result in
@@ -28,4 +16,4 @@ returns c =
 
 pub created-spec : {M : Type 1} → statement M
 created-spec =
-    tie.close (tie.spec none-requires state-out-requires kind-requires number-requires returns)
+    tie.close (tie.spec (λ c κs. search needs) (λ c κs. search needs) (λ c κs. search needs) (λ c κs. search needs) returns)

@@ -4,9 +4,6 @@ use mathlib.Core.Path.{sym, _∙_}
 use Rattle.order.proofs.change.add_fits.Statement.{statement}
 use Rattle.order.proofs.change.add_fits.Tie as tie
 
-short-full-requires : tie.Need-short-full-requires
-short-full-requires c κs = search needs
-
 returns : tie.Need-returns
 returns c = simp (sym (c .before .short-full .ensures) ∙ c .if1 .taken)
 
@@ -36,4 +33,4 @@ returns-5 c =
 
 pub add-fits-spec : {M : Type 1} → statement M
 add-fits-spec =
-    tie.close (tie.spec short-full-requires returns returns-2 returns-3 returns-4 returns-5)
+    tie.close (tie.spec (λ c κs. search needs) returns returns-2 returns-3 returns-4 returns-5)

@@ -4,9 +4,6 @@ use mathlib.Core.Path.{sym, _∙_}
 use Rattle.order.proofs.load.streams_fit.Statement.{statement}
 use Rattle.order.proofs.load.streams_fit.Tie as tie
 
-over-size-requires : tie.Need-over-size-requires
-over-size-requires c κs = search needs
-
 returns : tie.Need-returns
 returns c = simp (sym (c .before .over-size .ensures) ∙ c .if1 .taken)
 
@@ -17,4 +14,4 @@ returns-3 : tie.Need-returns-3
 returns-3 c = simp (sym (c .before .before .over-size .ensures) ∙ c .before .if1 .left, le-ltb _ _ (c .if2 .left))
 
 pub streams-fit-spec : {M : Type 1} → statement M
-streams-fit-spec = tie.close (tie.spec over-size-requires returns returns-2 returns-3)
+streams-fit-spec = tie.close (tie.spec (λ c κs. search needs) returns returns-2 returns-3)

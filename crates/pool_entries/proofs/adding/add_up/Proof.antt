@@ -29,9 +29,6 @@ sum-block-requires c κs = (omega arith, omega arith, omega arith)
 add-sum : tie.Need-add-sum Inv-loop μ-loop
 add-sum c = omega (arith, c .before .sum-block .ensures .few)
 
-loop-less : tie.Need-loop-less Inv-loop μ-loop
-loop-less c = omega arith
-
 loop-again : tie.Need-loop-again Inv-loop μ-loop
 loop-again c =
     let h = c .before .before .sum-block in
@@ -67,6 +64,6 @@ add-up-spec =
     block-end-requires
     sum-block-requires
     add-sum
-    loop-less
+    (λ c. omega arith)
     loop-again
     returns)

@@ -28,9 +28,6 @@ returns-2 c =
     judge-size (s .args .num-strings) (s .args .codepage) (W s) (Given s) (c .if2 .taken)
     ∙ choose-on (s .args .num-strings) (s .args .codepage) (W s) (s .args .new .now) (c .before .if1 .left)
 
-fits-requires : tie.Need-fits-requires
-fits-requires c κs = search needs
-
 returns-3 : tie.Need-returns-3
 returns-3 c =
     let s = c .before .before .before .before .before .before .before .before in
@@ -49,12 +46,6 @@ used-after-requires c κs =
     let f = fits-few (s .args .num-strings) (s .args .codepage) (s .args .lengths .now) (s .args .counts .now) (sym (c .before .before .fits2 .ensures) ∙ not-false _ (c .before .if3 .left)) in
     let d = c .search .ensures in
     ((f .lengths, f .counts, f .few, d .within), (d .scanned .sum, d .scanned .small))
-
-enum-told : tie.Need-enum-told
-enum-told c = search needs
-
-enum-known-u : tie.Need-enum-known-u
-enum-known-u c = search needs
 
 returns-4 : tie.Need-returns-4
 returns-4 c =
@@ -80,11 +71,11 @@ choose-spec =
     (tie.spec
     returns
     returns-2
-    fits-requires
+    (λ c κs. search needs)
     returns-3
     search-requires
     used-after-requires
-    enum-told
-    enum-known-u
+    (λ c. search needs)
+    (λ c. search needs)
     returns-4
     returns-5)

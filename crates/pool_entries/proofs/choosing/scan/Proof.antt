@@ -22,15 +22,6 @@ W s = rooms (s .args .lengths .now) (s .args .counts .now) (s .args .text .now)
 loop-holds : tie.Need-loop-holds Inv-loop μ-loop
 loop-holds c = (omega arith, omega arith, refl, c .before .before .before .before .pre .1 .2)
 
-length-at-requires : tie.Need-length-at-requires Inv-loop μ-loop
-length-at-requires c κs = omega arith
-
-mul-count : tie.Need-mul-count Inv-loop μ-loop
-mul-count c = omega arith
-
-shared-slice-read-count : tie.Need-shared-slice-read-count Inv-loop μ-loop
-shared-slice-read-count c = omega arith
-
 equal-at-requires : tie.Need-equal-at-requires Inv-loop μ-loop
 equal-at-requires c κs =
     let l = c .before .before .before .before in
@@ -49,12 +40,6 @@ returns c =
 add-start : tie.Need-add-start Inv-loop μ-loop
 add-start c = omega (arith, c .before .before .before .before .before .before .loop .inv .3 .sum .few, c .before .before .before .before .length-at .ensures .1)
 
-add-i : tie.Need-add-i Inv-loop μ-loop
-add-i c = omega arith
-
-loop-less : tie.Need-loop-less Inv-loop μ-loop
-loop-less c = omega arith
-
 loop-again : tie.Need-loop-again Inv-loop μ-loop
 loop-again c =
     let l = c .before .before .before .before .before .before in
@@ -67,9 +52,6 @@ loop-again c =
           (λ fit. compared (s .args .n) (W s) (s .args .new .now) (l .loop .i) (l .loop .start) (x .result) (c .before .equal-at .result) (omega arith) (x .ensures .0) (omega arith) (l .loop .inv .3 .sum .is) (c .before .equal-at .ensures) fit ∙ c .if2 .left)
           (l .loop .inv .3),
     )
-
-add-skip : tie.Need-add-skip Inv-loop μ-loop
-add-skip c = omega arith
 
 add-skip-2 : tie.Need-add-skip-2 Inv-loop μ-loop
 add-skip-2 c = omega (arith, c .before .before .before .loop .inv .3 .sum .few, c .before .length-at .ensures .1)
@@ -112,16 +94,16 @@ scan-spec =
     Inv-loop
     μ-loop
     loop-holds
-    length-at-requires
-    mul-count
-    shared-slice-read-count
+    (λ c κs. omega arith)
+    (λ c. omega arith)
+    (λ c. omega arith)
     equal-at-requires
     returns
     add-start
-    add-i
-    loop-less
+    (λ c. omega arith)
+    (λ c. omega arith)
     loop-again
-    add-skip
+    (λ c. omega arith)
     add-skip-2
     skip-requires
     loop-less-2

@@ -19,9 +19,6 @@ abbrev μ-loop : tie.MeasureT-loop
 abbrev W : tie.Start Inv-loop μ-loop → Rooms
 W s = rooms (s .args .lengths .now) (s .args .counts .now) (s .args .text .now)
 
-last-eight-requires : tie.Need-last-eight-requires Inv-loop μ-loop
-last-eight-requires c κs = search needs
-
 loop-holds : tie.Need-loop-holds Inv-loop μ-loop
 loop-holds c =
     let s = c .before .before .before .before .before in
@@ -52,9 +49,6 @@ returns-2 c =
     let b = c .before .before .before .before .before .block-end .result in
     found-free (s .args .n) (W s) (s .args .new .now) (c .before .before .before .before .before .before .before .loop .i) b (f .result) _ _ (omega arith) (c .if2 .taken) (c .before .if1 .left) (f .ensures) (c .before .before .before .scan .ensures)
 
-loop-less : tie.Need-loop-less Inv-loop μ-loop
-loop-less c = omega arith
-
 loop-again : tie.Need-loop-again Inv-loop μ-loop
 loop-again c =
     let s = c .before .before .before .before .before .before .before .before .before .before .before .before .before in
@@ -74,13 +68,13 @@ search-spec =
     (tie.spec
     Inv-loop
     μ-loop
-    last-eight-requires
+    (λ c κs. search needs)
     loop-holds
     block-end-requires
     first-free-requires
     scan-requires
     returns
     returns-2
-    loop-less
+    (λ c. omega arith)
     loop-again
     returns-3)

@@ -22,9 +22,6 @@ returns c =
     let s = c .before .before .before .before in
     judge-size (s .args .num-strings) (s .args .codepage) (W s) (Given s) (c .if1 .taken)
 
-fits-requires : tie.Need-fits-requires
-fits-requires c κs = search needs
-
 returns-2 : tie.Need-returns-2
 returns-2 c =
     let s = c .before .before .before .before .before .before in
@@ -35,12 +32,6 @@ used-after-requires c κs =
     let s = c .before .before .before .before .before .before in
     let f = fits-few (s .args .num-strings) (s .args .codepage) (s .args .lengths .now) (s .args .counts .now) (sym (c .before .fits2 .ensures) ∙ not-false _ (c .if2 .left)) in
     ((f .lengths, f .counts, f .few, omega arith), (record { is = refl; few = omega arith }, refl))
-
-enum-told : tie.Need-enum-told
-enum-told c = search needs
-
-enum-known-used : tie.Need-enum-known-used
-enum-known-used c = search needs
 
 returns-3 : tie.Need-returns-3
 returns-3 c =
@@ -62,10 +53,10 @@ judge-spec =
     tie.close
     (tie.spec
     returns
-    fits-requires
+    (λ c κs. search needs)
     returns-2
     used-after-requires
-    enum-told
-    enum-known-used
+    (λ c. search needs)
+    (λ c. search needs)
     returns-3
     returns-4)

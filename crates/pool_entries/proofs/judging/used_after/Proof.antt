@@ -8,12 +8,6 @@ use borrow.Author.Needs.{needs}
 use Rattle.pool_entries.proofs.judging.used_after.Statement.{statement}
 use Rattle.pool_entries.proofs.judging.used_after.Tie as tie
 
-add-up-requires : tie.Need-add-up-requires
-add-up-requires c κs = search needs
-
-add-used : tie.Need-add-used
-add-used c = search needs
-
 returns : tie.Need-returns
 returns c =
     let u = c .before .add-up in
@@ -29,9 +23,6 @@ returns-2 c =
     let b = s .args .start + u .result .sum in
     let e : b ≡ total (take (s .args .n) (s .args .lengths .now)) = omega (arith, s .pre .1 .0 .is, u .ensures .sum) in
     used-short (s .args .n) (s .args .lengths .now) (s .args .counts .now) (s .pre .0 .0) (s .pre .0 .1) (s .args .room) b e (c .before .before .if1 .left) (s .args .at) (s .pre .0 .3) (s .pre .1 .1) (u .ensures .short (c .if2 .taken))
-
-all-small-requires : tie.Need-all-small-requires
-all-small-requires c κs = search needs
 
 returns-3 : tie.Need-returns-3
 returns-3 c =
@@ -52,4 +43,4 @@ returns-4 c =
 pub used-after-spec : {M : Type 1} → statement M
 used-after-spec =
     tie.close
-    (tie.spec add-up-requires add-used returns returns-2 all-small-requires returns-3 returns-4)
+    (tie.spec (λ c κs. search needs) (λ c. search needs) returns returns-2 (λ c κs. search needs) returns-3 returns-4)

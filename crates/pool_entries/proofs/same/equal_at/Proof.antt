@@ -5,15 +5,6 @@ use Rattle.pool_entries.proofs.Bytes.{equal-other}
 use Rattle.pool_entries.proofs.same.equal_at.Statement.{statement}
 use Rattle.pool_entries.proofs.same.equal_at.Tie as tie
 
-may-be-requires : tie.Need-may-be-requires
-may-be-requires c κs = search needs
-
-same-at-requires : tie.Need-same-at-requires
-same-at-requires c κs = search needs
-
-returns : tie.Need-returns
-returns c = search needs
-
 returns-2 : tie.Need-returns-2
 returns-2 c =
     let s = c .before .before .before .before in
@@ -21,4 +12,4 @@ returns-2 c =
     (c .before .may-be .ensures (c .if1 .left) (s .args .new .now) refl (s .pre .1) h))
 
 pub equal-at-spec : {M : Type 1} → statement M
-equal-at-spec = tie.close (tie.spec may-be-requires same-at-requires returns returns-2)
+equal-at-spec = tie.close (tie.spec (λ c κs. search needs) (λ c κs. search needs) (λ c. search needs) returns-2)

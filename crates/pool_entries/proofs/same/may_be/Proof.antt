@@ -7,17 +7,8 @@ use Rattle.pool_entries.proofs.Bytes.{true-false, part-differs}
 use Rattle.pool_entries.proofs.same.may_be.Statement.{statement}
 use Rattle.pool_entries.proofs.same.may_be.Tie as tie
 
-add-end : tie.Need-add-end
-add-end c = search needs
-
 returns : tie.Need-returns
 returns c = λ z t e w h. absurd (omega arith)
-
-sub-eight : tie.Need-sub-eight
-sub-eight c = search needs
-
-eight-requires : tie.Need-eight-requires
-eight-requires c κs = search needs
 
 returns-2 : tie.Need-returns-2
 returns-2 c =
@@ -28,4 +19,4 @@ returns-3 : tie.Need-returns-3
 returns-3 c = λ z. absurd (true-false (sym z))
 
 pub may-be-spec : {M : Type 1} → statement M
-may-be-spec = tie.close (tie.spec add-end returns sub-eight eight-requires returns-2 returns-3)
+may-be-spec = tie.close (tie.spec (λ c. search needs) returns (λ c. search needs) (λ c κs. search needs) returns-2 returns-3)

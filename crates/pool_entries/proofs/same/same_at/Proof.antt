@@ -8,23 +8,8 @@ use Rattle.pool_entries.specs.Choose.{equal}
 use Rattle.pool_entries.proofs.same.same_at.Statement.{statement}
 use Rattle.pool_entries.proofs.same.same_at.Tie as tie
 
-add-end : tie.Need-add-end
-add-end c = search needs
-
 returns : tie.Need-returns
 returns c = λ h. absurd (omega arith)
-
-sub-is-equal : tie.Need-sub-is-equal
-sub-is-equal c = search needs
-
-part-is-equal-start : tie.Need-part-is-equal-start
-part-is-equal-start c = search needs
-
-part-is-equal-end : tie.Need-part-is-equal-end
-part-is-equal-end c = search needs
-
-is-equal-requires : tie.Need-is-equal-requires
-is-equal-requires c κs = search needs
 
 returns-2 : tie.Need-returns-2
 returns-2 c =
@@ -36,10 +21,10 @@ pub same-at-spec : {M : Type 1} → statement M
 same-at-spec =
     tie.close
     (tie.spec
-    add-end
+    (λ c. search needs)
     returns
-    sub-is-equal
-    part-is-equal-start
-    part-is-equal-end
-    is-equal-requires
+    (λ c. search needs)
+    (λ c. search needs)
+    (λ c. search needs)
+    (λ c κs. search needs)
     returns-2)

@@ -5,9 +5,6 @@ use borrow.Author.Needs.{needs}
 use Rattle.pool_stream.proofs.entry.entry_size.Statement.{statement}
 use Rattle.pool_stream.proofs.entry.entry_size.Tie as tie
 
-wide-requires : tie.Need-wide-requires
-wide-requires c κs = search needs
-
 returns : tie.Need-returns
 returns c = (sym (length-wide (c .before .before .args .size) (c .before .before .args .count) (sym (c .before .wide .ensures) ∙ c .if1 .taken)), omega arith)
 
@@ -15,4 +12,4 @@ returns-2 : tie.Need-returns-2
 returns-2 c = (sym (length-narrow (c .before .before .args .size) (c .before .before .args .count) (sym (c .before .wide .ensures) ∙ c .if1 .left)), omega arith)
 
 pub entry-size-spec : {M : Type 1} → statement M
-entry-size-spec = tie.close (tie.spec wide-requires returns returns-2)
+entry-size-spec = tie.close (tie.spec (λ c κs. search needs) returns returns-2)

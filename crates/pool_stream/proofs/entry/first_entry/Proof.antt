@@ -16,29 +16,17 @@ returns c = found-end (now (c .before .before .args .left)) (c .if1 .taken)
 returns-2 : tie.Need-returns-2
 returns-2 c = found-cut (now (c .before .before .before .args .left)) (c .before .if1 .left) (c .if2 .taken)
 
-read-requires : tie.Need-read-requires
-read-requires c κs = search needs
-
-read-requires-2 : tie.Need-read-requires-2
-read-requires-2 c κs = search needs
-
 cast-t6 : tie.Need-cast-t6
 cast-t6 c = omega (arith, c .before .read2 .ensures, number-lt 2 (now (c .before .before .before .before .before .before .args .left)) 2 (bytes (c .before .before .before .before .before)))
 
 returns-3 : tie.Need-returns-3
 returns-3 c = found-length (now (c .before .before .before .before .before .before .args .left)) (c .before .before .before .if2 .left) (c .before .before .read .result) (c .before .read2 .result) (c .before .before .read .ensures) (c .before .read2 .ensures) (c .if3 .taken)
 
-cast-t7 : tie.Need-cast-t7
-cast-t7 c = search needs
-
 returns-4 : tie.Need-returns-4
 returns-4 c = found-free (now (c .before .before .before .before .before .before .before .args .left)) (c .before .before .before .before .if2 .left) (c .before .before .before .read .result) (c .before .before .read2 .result) (c .before .before .before .read .ensures) (c .before .before .read2 .ensures) (c .before .if3 .left) (c .if4 .taken)
 
 returns-5 : tie.Need-returns-5
 returns-5 c = found-wide-cut (now (c .before .before .before .before .before .before .before .before .args .left)) (c .before .before .before .before .before .if2 .left) (c .before .before .before .before .read .result) (c .before .before .before .read2 .result) (c .before .before .before .before .read .ensures) (c .before .before .before .read2 .ensures) (c .before .before .if3 .left) (c .before .if4 .left) (c .if5 .taken)
-
-read-requires-3 : tie.Need-read-requires-3
-read-requires-3 c κs = search needs
 
 cast-t9 : tie.Need-cast-t9
 cast-t9 c = omega (arith, c .before .before .before .before .read2 .ensures, number-lt 2 (now (c .before .before .before .before .before .before .before .before .before .args .left)) 2 (bytes (c .before .before .before .before .before .before .before .before)))
@@ -52,13 +40,13 @@ first-entry-spec =
     (tie.spec
     returns
     returns-2
-    read-requires
-    read-requires-2
+    (λ c κs. search needs)
+    (λ c κs. search needs)
     cast-t6
     returns-3
-    cast-t7
+    (λ c. search needs)
     returns-4
     returns-5
-    read-requires-3
+    (λ c κs. search needs)
     cast-t9
     returns-6)

@@ -7,9 +7,6 @@ use borrow.Author.Needs.{needs}
 use Rattle.pool_stream.proofs.entry.wide.Statement.{statement}
 use Rattle.pool_stream.proofs.entry.wide.Tie as tie
 
-short-of-requires : tie.Need-short-of-requires
-short-of-requires c κs = search needs
-
 returns : tie.Need-returns
 returns c = ap (λ (b : Bool). b && ltb 0 (c .before .before .args .count)) (sym (ne-eqb (shortOf (c .before .before .args .size)) 0 (λ q. c .if1 .taken (c .before .short-of .ensures ∙ q))))
 
@@ -17,4 +14,4 @@ returns-2 : tie.Need-returns-2
 returns-2 c = ap (λ (b : Bool). b && ltb 0 (c .before .before .args .count)) (sym (eq-eqb (shortOf (c .before .before .args .size)) 0 (sym (c .before .short-of .ensures) ∙ c .if1 .left)))
 
 pub wide-spec : {M : Type 1} → statement M
-wide-spec = tie.close (tie.spec short-of-requires returns returns-2)
+wide-spec = tie.close (tie.spec (λ c κs. search needs) returns returns-2)

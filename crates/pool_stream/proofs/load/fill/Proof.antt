@@ -45,21 +45,6 @@ loop-holds c =
     let s : List ℕ = c .before .before .before .args .s .now in
     (run-start _ _ _ _, run-start _ _ _ _, omega arith, omega arith, ap (λ (k : ℕ). entriesIn k (drop 4 s)) (sub-zero (length s)) ∙ c .before .before .before .pre .is)
 
-sub-first-entry : tie.Need-sub-first-entry Inv-loop μ-loop
-sub-first-entry c = omega arith
-
-part-first-entry-start : tie.Need-part-first-entry-start Inv-loop μ-loop
-part-first-entry-start c = search needs
-
-part-first-entry-end : tie.Need-part-first-entry-end Inv-loop μ-loop
-part-first-entry-end c = search needs
-
-first-entry-requires : tie.Need-first-entry-requires Inv-loop μ-loop
-first-entry-requires c κs = search needs
-
-enum-known-entry : tie.Need-enum-known-entry Inv-loop μ-loop
-enum-known-entry c = search needs
-
 same-length : tie.Need-same-length Inv-loop μ-loop
 same-length c = c .before .before .before .before .loop .inv .0 .long
 
@@ -75,28 +60,16 @@ returns c =
     (c .before .first-entry .result) (c .before .first-entry .ensures ∙ ap entryIn (tail-part (l .at) s)) in
     absurd (⊎-elim (λ w. omega arith) (λ w. omega arith) (rw (o .4) at (c .match .keys2)))
 
-mul-lengths : tie.Need-mul-lengths Inv-loop μ-loop
-mul-lengths c = omega arith
-
 slice-write-lengths : tie.Need-slice-write-lengths Inv-loop μ-loop
 slice-write-lengths c = omega (arith, c .before .before .before .before .before .before .loop .inv .0 .long, c .before .before .before .before .before .before .before .before .before .before .pre .long)
 
-mul-counts : tie.Need-mul-counts Inv-loop μ-loop
-mul-counts c = omega arith
-
 slice-write-counts : tie.Need-slice-write-counts Inv-loop μ-loop
 slice-write-counts c = omega (arith, c .before .before .before .before .before .before .loop .inv .1 .long, c .before .before .before .before .before .before .before .before .before .before .pre .counted)
-
-add-i : tie.Need-add-i Inv-loop μ-loop
-add-i c = omega arith
 
 add-at : tie.Need-add-at Inv-loop μ-loop
 add-at c =
     let a = found-size (drop (c .before .before .before .before .before .before .loop .at) (c .before .before .before .before .before .before .before .before .before .before .args .s .now)) _ _ _ _ (found c ∙ ap foundAs (c .before .entry .given .1)) in
     omega (arith, a, length-drop (c .before .before .before .before .before .before .loop .at) (c .before .before .before .before .before .before .before .before .before .before .args .s .now))
-
-loop-less : tie.Need-loop-less Inv-loop μ-loop
-loop-less c = omega arith
 
 loop-again : tie.Need-loop-again Inv-loop μ-loop
 loop-again c =
@@ -129,21 +102,21 @@ fill-spec =
     Inv-loop
     μ-loop
     loop-holds
-    sub-first-entry
-    part-first-entry-start
-    part-first-entry-end
-    first-entry-requires
-    enum-known-entry
+    (λ c. omega arith)
+    (λ c. search needs)
+    (λ c. search needs)
+    (λ c κs. search needs)
+    (λ c. search needs)
     same-length
     same-length-2
     returns
-    mul-lengths
+    (λ c. omega arith)
     slice-write-lengths
-    mul-counts
+    (λ c. omega arith)
     slice-write-counts
-    add-i
+    (λ c. omega arith)
     add-at
-    loop-less
+    (λ c. omega arith)
     loop-again
     same-length-3
     same-length-4

@@ -5,29 +5,11 @@ use borrow.Author.Needs.{needs}
 use Rattle.pool_stream.proofs.load.load_entries.Statement.{statement}
 use Rattle.pool_stream.proofs.load.load_entries.Tie as tie
 
-entry-room-requires : tie.Need-entry-room-requires
-entry-room-requires c κs = search needs
-
-plan-load-requires : tie.Need-plan-load-requires
-plan-load-requires c κs = search needs
-
-enum-known-plan : tie.Need-enum-known-plan
-enum-known-plan c = search needs
-
 fill-requires : tie.Need-fill-requires
 fill-requires c κs =
     let s = c .before .before .before .before .before .before .before .before .before .before .args in
     let e = by-plan (s .pool .now) (s .stream) (s .text) (s .lengths .now) (s .counts .now) (c .before .before .before .plan .given .1) (c .before .before .before .before .before .before .entry-room .ensures) (c .before .before .before .before .before .plan-load .ensures) in
     filling (s .pool .now) (s .stream) (s .text) (s .lengths .now) (s .counts .now) _ _ e
-
-enum-told : tie.Need-enum-told
-enum-told c = search needs
-
-same-length : tie.Need-same-length
-same-length c = search needs
-
-same-length-2 : tie.Need-same-length-2
-same-length-2 c = search needs
 
 returns : tie.Need-returns
 returns c =
@@ -45,12 +27,12 @@ pub load-entries-spec : {M : Type 1} → statement M
 load-entries-spec =
     tie.close
     (tie.spec
-    entry-room-requires
-    plan-load-requires
-    enum-known-plan
+    (λ c κs. search needs)
+    (λ c κs. search needs)
+    (λ c. search needs)
     fill-requires
-    enum-told
-    same-length
-    same-length-2
+    (λ c. search needs)
+    (λ c. search needs)
+    (λ c. search needs)
     returns
     returns-2)

@@ -1,7 +1,5 @@
 use mathlib.Core.Path.{_≡_, sym, ap, ap₂, _∙_}
 use Prim.Native.Nat.{ℕ}
-use mathlib.Core.List.{List}
-use native.Mathlib.Omega.{arith}
 use lib.ListN.{length}
 use Rattle.common.specs.Answers.{Answer, gives, onGiven}
 use Rattle.order.specs.Order.{fitsAs, streamsFit}
@@ -21,34 +19,16 @@ By entries stream text a x = onGiven a (λ _. onGiven x (fitted entries stream t
 fit : (c : tie.After-enum-told) → streamsFit (length (c .before .before .before .before .args .pool .now)) (c .before .before .before .before .args .stream) (c .before .before .before .before .args .text) ≡ gives tt
 fit c = sym (c .before .before .streams-fit .ensures) ∙ ap fitsAs (c .enum-told .given .1)
 
-streams-fit-requires : tie.Need-streams-fit-requires
-streams-fit-requires c κs = search needs
-
-enum-known-fits : tie.Need-enum-known-fits
-enum-known-fits c = search needs
-
 returns : tie.Need-returns
 returns c =
     let a = c .before .before .before .before .before .args in
     ap (λ (x : Answer (Unit {0})). By (a .entries) (a .stream) (a .text) x (sizesOf (poolEntries (a .pool .now)))) (sym (ap fitsAs (c .before .fits2 .given .1)) ∙ c .before .before .before .streams-fit .ensures)
-
-enum-told : tie.Need-enum-told
-enum-told c = search needs
 
 sizes-requires : tie.Need-sizes-requires
 sizes-requires c κs =
     let a = c .before .before .before .before .args in
     let f = streams-fit (length (a .pool .now)) (a .stream) (a .text) (fit c) in
     (f .3, f .0)
-
-enum-told-2 : tie.Need-enum-told-2
-enum-told-2 c = search needs
-
-enum-known-sized : tie.Need-enum-known-sized
-enum-known-sized c = search needs
-
-plan-sized-requires : tie.Need-plan-sized-requires
-plan-sized-requires c κs = search needs
 
 returns-2 : tie.Need-returns-2
 returns-2 c =
@@ -65,13 +45,13 @@ pub plan-load-spec : {M : Type 1} → statement M
 plan-load-spec =
     tie.close
     (tie.spec
-    streams-fit-requires
-    enum-known-fits
+    (λ c κs. search needs)
+    (λ c. search needs)
     returns
-    enum-told
+    (λ c. search needs)
     sizes-requires
-    enum-told-2
-    enum-known-sized
-    plan-sized-requires
+    (λ c. search needs)
+    (λ c. search needs)
+    (λ c κs. search needs)
     returns-2
     returns-3)

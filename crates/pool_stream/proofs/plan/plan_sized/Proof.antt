@@ -5,15 +5,6 @@ use borrow.Author.Needs.{needs}
 use Rattle.pool_stream.proofs.plan.plan_sized.Statement.{statement}
 use Rattle.pool_stream.proofs.plan.plan_sized.Tie as tie
 
-load-fits-requires : tie.Need-load-fits-requires
-load-fits-requires c κs = search needs
-
-enum-known-fits : tie.Need-enum-known-fits
-enum-known-fits c = search needs
-
-enum-told : tie.Need-enum-told
-enum-told c = search needs
-
 returns : tie.Need-returns
 returns c =
     let s = c .before .before .before .before .args in
@@ -26,4 +17,4 @@ returns-2 c =
 
 pub plan-sized-spec : {M : Type 1} → statement M
 plan-sized-spec =
-    tie.close (tie.spec load-fits-requires enum-known-fits enum-told returns returns-2)
+    tie.close (tie.spec (λ c κs. search needs) (λ c. search needs) (λ c. search needs) returns returns-2)

@@ -26,44 +26,17 @@ found c = ap entryIn (sym (tail-part (c .before .before .before .before .before 
 loop-holds : tie.Need-loop-holds Inv-loop μ-loop
 loop-holds c = (omega arith, omega arith, omega arith, more-none _ ∙ ap (λ (f : ℕ). more 0 0 (sizesOf (entriesIn f (drop 4 (c .before .args .s .now))))) (sym (sub-zero (length (c .before .args .s .now)))))
 
-sub-first-entry : tie.Need-sub-first-entry Inv-loop μ-loop
-sub-first-entry c = omega arith
-
-part-first-entry-start : tie.Need-part-first-entry-start Inv-loop μ-loop
-part-first-entry-start c = search needs
-
-part-first-entry-end : tie.Need-part-first-entry-end Inv-loop μ-loop
-part-first-entry-end c = search needs
-
-first-entry-requires : tie.Need-first-entry-requires Inv-loop μ-loop
-first-entry-requires c κs = search needs
-
-enum-told : tie.Need-enum-told Inv-loop μ-loop
-enum-told c = search needs
-
 returns : tie.Need-returns Inv-loop μ-loop
 returns c =
     let l = c .before .before .before .before in
     let s = c .before .before .before .before .before .before in
     size-end (s .args .s .now) (l .loop .n) (l .loop .sum) (l .loop .at) (omega arith) (l .loop .inv .3) _ (ap entryIn (sym (tail-part (l .loop .at) (s .args .s .now))) ∙ sym (c .before .before .first-entry .ensures) ∙ ap foundAs (c .enum-told .given .1))
 
-enum-told-2 : tie.Need-enum-told-2 Inv-loop μ-loop
-enum-told-2 c = search needs
-
 returns-2 : tie.Need-returns-2 Inv-loop μ-loop
 returns-2 c =
     let l = c .before .before .before .before in
     let s = c .before .before .before .before .before .before in
     size-cut (s .args .s .now) (l .loop .n) (l .loop .sum) (l .loop .at) (omega arith) (l .loop .inv .3) (ap entryIn (sym (tail-part (l .loop .at) (s .args .s .now))) ∙ sym (c .before .before .first-entry .ensures) ∙ ap foundAs (c .enum-told2 .given .1))
-
-enum-known-entry : tie.Need-enum-known-entry Inv-loop μ-loop
-enum-known-entry c = search needs
-
-add-n : tie.Need-add-n Inv-loop μ-loop
-add-n c = omega arith
-
-cast-sum : tie.Need-cast-sum Inv-loop μ-loop
-cast-sum c = search needs
 
 add-sum : tie.Need-add-sum Inv-loop μ-loop
 add-sum c = omega (arith, c .known-told .given)
@@ -100,17 +73,17 @@ sizes-spec =
     Inv-loop
     μ-loop
     loop-holds
-    sub-first-entry
-    part-first-entry-start
-    part-first-entry-end
-    first-entry-requires
-    enum-told
+    (λ c. omega arith)
+    (λ c. search needs)
+    (λ c. search needs)
+    (λ c κs. search needs)
+    (λ c. search needs)
     returns
-    enum-told-2
+    (λ c. search needs)
     returns-2
-    enum-known-entry
-    add-n
-    cast-sum
+    (λ c. search needs)
+    (λ c. omega arith)
+    (λ c. search needs)
     add-sum
     add-at
     loop-less

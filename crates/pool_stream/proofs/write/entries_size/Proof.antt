@@ -17,29 +17,8 @@ abbrev μ-loop : tie.MeasureT-loop
 loop-holds : tie.Need-loop-holds Inv-loop μ-loop
 loop-holds c = (omega arith, omega arith, refl)
 
-mul-size : tie.Need-mul-size Inv-loop μ-loop
-mul-size c = omega arith
-
-shared-slice-read-size : tie.Need-shared-slice-read-size Inv-loop μ-loop
-shared-slice-read-size c = omega arith
-
-mul-count : tie.Need-mul-count Inv-loop μ-loop
-mul-count c = omega arith
-
-shared-slice-read-count : tie.Need-shared-slice-read-count Inv-loop μ-loop
-shared-slice-read-count c = omega arith
-
-entry-size-requires : tie.Need-entry-size-requires Inv-loop μ-loop
-entry-size-requires c κs = search needs
-
 add-sum : tie.Need-add-sum Inv-loop μ-loop
 add-sum c = omega (arith, c .entry-size .ensures)
-
-add-i : tie.Need-add-i Inv-loop μ-loop
-add-i c = omega arith
-
-loop-less : tie.Need-loop-less Inv-loop μ-loop
-loop-less c = omega arith
 
 loop-again : tie.Need-loop-again Inv-loop μ-loop
 loop-again c =
@@ -64,13 +43,13 @@ entries-size-spec =
     Inv-loop
     μ-loop
     loop-holds
-    mul-size
-    shared-slice-read-size
-    mul-count
-    shared-slice-read-count
-    entry-size-requires
+    (λ c. omega arith)
+    (λ c. omega arith)
+    (λ c. omega arith)
+    (λ c. omega arith)
+    (λ c κs. search needs)
     add-sum
-    add-i
-    loop-less
+    (λ c. omega arith)
+    (λ c. omega arith)
     loop-again
     returns)

@@ -13,29 +13,11 @@ use borrow.Author.Needs.{needs}
 use Rattle.pool_stream.proofs.write.write_entry.Statement.{statement}
 use Rattle.pool_stream.proofs.write.write_entry.Tie as tie
 
-short-of-requires : tie.Need-short-of-requires
-short-of-requires c κs = search needs
-
-write-requires : tie.Need-write-requires
-write-requires c κs = search needs
-
 add-write : tie.Need-add-write
 add-write c = omega (arith, length-entry (c .before .before .before .before .before .before .before .args .size) (c .before .before .before .before .before .before .before .args .count), c .before .before .before .before .before .before .before .pre)
 
-write-requires-2 : tie.Need-write-requires-2
-write-requires-2 c κs = search needs
-
-wide-requires : tie.Need-wide-requires
-wide-requires c κs = search needs
-
 add-write-2 : tie.Need-add-write-2
 add-write-2 c = omega (arith, length-wide (c .before .before .before .before .before .before .before .before .before .before .before .before .before .args .size) (c .before .before .before .before .before .before .before .before .before .before .before .before .before .args .count) (sym (c .before .before .wide .ensures) ∙ c .before .if1 .taken), c .before .before .before .before .before .before .before .before .before .before .before .before .before .pre)
-
-write-requires-3 : tie.Need-write-requires-3
-write-requires-3 c κs = search needs
-
-same-length : tie.Need-same-length
-same-length c = search needs
 
 returns : tie.Need-returns
 returns c =
@@ -53,9 +35,6 @@ returns c =
     let e₂ : o₂ ≡ overAt (at + 2) (bytesOf 2 k) o₁ = wrote k 2 o₁ (at + 2) (omega arith) (c .before .before .before .before .before .before .before .before .write2 .ensures) in
     let l₂ : length o₂ ≡ length o = ap length e₂ ∙ length-over-at (at + 2) (bytesOf 2 k) o₁ (omega arith) ∙ l₁ in
     (sym (length-wide n k w), wrote-wide n k at o o₁ o₂ (omega arith) e₁ e₂ w _ (wrote n 4 o₂ (at + 4) (omega arith) (c .before .before .write3 .ensures)))
-
-same-length-2 : tie.Need-same-length-2
-same-length-2 c = search needs
 
 returns-2 : tie.Need-returns-2
 returns-2 c =
@@ -75,14 +54,14 @@ pub write-entry-spec : {M : Type 1} → statement M
 write-entry-spec =
     tie.close
     (tie.spec
-    short-of-requires
-    write-requires
+    (λ c κs. search needs)
+    (λ c κs. search needs)
     add-write
-    write-requires-2
-    wide-requires
+    (λ c κs. search needs)
+    (λ c κs. search needs)
     add-write-2
-    write-requires-3
-    same-length
+    (λ c κs. search needs)
+    (λ c. search needs)
     returns
-    same-length-2
+    (λ c. search needs)
     returns-2)

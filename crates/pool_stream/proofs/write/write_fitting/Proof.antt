@@ -11,25 +11,10 @@ use borrow.Author.Needs.{needs}
 use Rattle.pool_stream.proofs.write.write_fitting.Statement.{statement}
 use Rattle.pool_stream.proofs.write.write_fitting.Tie as tie
 
-entries-size-requires : tie.Need-entries-size-requires
-entries-size-requires c κs = search needs
-
-add-size : tie.Need-add-size
-add-size c = search needs
-
 returns : tie.Need-returns
 returns c =
     let s = c .before .before .before .before .before in
     write-short (streamBytes (s .args .mark) (s .args .n) (s .args .lengths .now) (s .args .counts .now)) (s .args .out .now) (omega (arith, c .before .entries-size .ensures, c .if1 .taken))
-
-write-requires : tie.Need-write-requires
-write-requires c κs = search needs
-
-write-entries-requires : tie.Need-write-entries-requires
-write-entries-requires c κs = search needs
-
-same-length : tie.Need-same-length
-same-length c = search needs
 
 returns-2 : tie.Need-returns-2
 returns-2 c =
@@ -46,10 +31,10 @@ pub write-fitting-spec : {M : Type 1} → statement M
 write-fitting-spec =
     tie.close
     (tie.spec
-    entries-size-requires
-    add-size
+    (λ c κs. search needs)
+    (λ c. search needs)
     returns
-    write-requires
-    write-entries-requires
-    same-length
+    (λ c κs. search needs)
+    (λ c κs. search needs)
+    (λ c. search needs)
     returns-2)

@@ -1,4 +1,4 @@
-use mathlib.Core.Path.{_≡_, sym, ap, _∙_}
+use mathlib.Core.Path.{sym, ap, _∙_}
 use mathlib.Core.Bool.{Bool}
 use lib.ListN.{length}
 use Rattle.common.specs.Choice.{if_then_else_}
@@ -9,16 +9,10 @@ use borrow.Author.Needs.{needs}
 use Rattle.pool_stream.proofs.write.write_stream.Statement.{statement}
 use Rattle.pool_stream.proofs.write.write_stream.Tie as tie
 
-in-rooms-requires : tie.Need-in-rooms-requires
-in-rooms-requires c κs = search needs
-
 write-fitting-requires : tie.Need-write-fitting-requires
 write-fitting-requires c κs =
     let s = c .before .before .before .before .before .before .args in
     in-rooms (s .n) (length (s .lengths .now)) (length (s .counts .now)) (sym (c .before .before .in-rooms .ensures) ∙ c .before .if1 .taken)
-
-same-length : tie.Need-same-length
-same-length c = search needs
 
 returns : tie.Need-returns
 returns c =
@@ -33,4 +27,4 @@ returns-2 c =
 
 pub write-stream-spec : {M : Type 1} → statement M
 write-stream-spec =
-    tie.close (tie.spec in-rooms-requires write-fitting-requires same-length returns returns-2)
+    tie.close (tie.spec (λ c κs. search needs) write-fitting-requires (λ c. search needs) returns returns-2)

@@ -1,14 +1,11 @@
-use Rattle.column.proofs.Halves.{sub-fits, sub-back, unbiased-fits}
-use Rattle.column.specs.Signed.{unbiased}
+use Rattle.column_type.proofs.Halves.{sub-fits, sub-back, unbiased-fits}
+use Rattle.column_type.specs.Signed.{unbiased}
 use lib.Dec.{lit≤}
 use mir.Facts.{toZ-ofZ}
 use mir.Syntax.{w32}
 use borrow.Author.Needs.{needs}
 use Rattle.replay_tables.proofs.numbers.difference.Statement.{statement}
 use Rattle.replay_tables.proofs.numbers.difference.Tie as tie
-
-cast-result : tie.Need-cast-result
-cast-result c = search needs
 
 sub-result : tie.Need-sub-result
 sub-result c = sub-fits (c .args .u) 2147483648 (lit≤ tt) (c .pre)
@@ -22,4 +19,4 @@ returns c =
     (toZ-ofZ {w = w32} {z = unbiased 2147483648 (c .args .u)} (unbiased-fits (c .args .u) 2147483648 (lit≤ tt) (c .pre)))
 
 pub difference-spec : {M : Type 1} → statement M
-difference-spec = tie.close (tie.spec cast-result sub-result cast-result-2 returns)
+difference-spec = tie.close (tie.spec (λ c. search needs) sub-result cast-result-2 returns)

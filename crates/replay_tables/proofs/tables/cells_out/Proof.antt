@@ -9,65 +9,23 @@ Inv-loop kinds numbers cells i₀ i = Unit {0}
 abbrev μ-loop : tie.MeasureT-loop
 μ-loop kinds numbers cells i₀ i = cells - i
 
-slice-aggregate-say : tie.Need-slice-aggregate-say Inv-loop μ-loop
-slice-aggregate-say c = search needs
-
-say-requires : tie.Need-say-requires Inv-loop μ-loop
-say-requires c κs = search needs
-
-loop-holds : tie.Need-loop-holds Inv-loop μ-loop
-loop-holds c = tt
-
-returns : tie.Need-returns Inv-loop μ-loop
-returns c = search needs
-
-returns-2 : tie.Need-returns-2 Inv-loop μ-loop
-returns-2 c = search needs
-
-comma-requires : tie.Need-comma-requires Inv-loop μ-loop
-comma-requires c κs = search needs
-
-shared-slice-read-cell-out : tie.Need-shared-slice-read-cell-out Inv-loop μ-loop
-shared-slice-read-cell-out c = search needs
-
-mul-cell-out : tie.Need-mul-cell-out Inv-loop μ-loop
-mul-cell-out c = search needs
-
-shared-slice-copy-out-cell-out : tie.Need-shared-slice-copy-out-cell-out Inv-loop μ-loop
-shared-slice-copy-out-cell-out c = search needs
-
-cell-out-requires : tie.Need-cell-out-requires Inv-loop μ-loop
-cell-out-requires c κs = search needs
-
-add-i : tie.Need-add-i Inv-loop μ-loop
-add-i c = search needs
-
-loop-less : tie.Need-loop-less Inv-loop μ-loop
-loop-less c = search needs
-
-loop-again : tie.Need-loop-again Inv-loop μ-loop
-loop-again c = tt
-
-returns-3 : tie.Need-returns-3 Inv-loop μ-loop
-returns-3 c = search needs
-
 pub cells-out-spec : {M : Type 1} → statement M
 cells-out-spec =
     tie.close
     (tie.spec
     Inv-loop
     μ-loop
-    slice-aggregate-say
-    say-requires
-    loop-holds
-    returns
-    returns-2
-    comma-requires
-    shared-slice-read-cell-out
-    mul-cell-out
-    shared-slice-copy-out-cell-out
-    cell-out-requires
-    add-i
-    loop-less
-    loop-again
-    returns-3)
+    (λ c. search needs)
+    (λ c κs. search needs)
+    (λ c. tt)
+    (λ c. search needs)
+    (λ c. search needs)
+    (λ c κs. search needs)
+    (λ c. search needs)
+    (λ c. search needs)
+    (λ c. search needs)
+    (λ c κs. search needs)
+    (λ c. search needs)
+    (λ c. search needs)
+    (λ c. tt)
+    (λ c. search needs))

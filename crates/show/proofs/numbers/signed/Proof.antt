@@ -1,7 +1,7 @@
 -- `signed` is safe: a negative number's distance from 0 fits. Assumes nothing.
 use Rattle.show.proofs.Negative.{distance}
-use Rattle.column.proofs.Cells.{from-zero}
-use Rattle.column.proofs.Halves.{widens, widened}
+use Rattle.column_type.proofs.Cells.{from-zero}
+use Rattle.column_type.proofs.Halves.{widens, widened}
 use Prim.Native.Nat.{suc}
 use lib.Signed.{mag}
 use mir.Facts.{toZ-ofZ, toZ-pos}
@@ -10,12 +10,6 @@ use native.Mathlib.Omega.{arith}
 use borrow.Author.Needs.{needs}
 use Rattle.show.proofs.numbers.signed.Statement.{statement}
 use Rattle.show.proofs.numbers.signed.Tie as tie
-
-slice-aggregate-words : tie.Need-slice-aggregate-words
-slice-aggregate-words c = search needs
-
-words-requires : tie.Need-words-requires
-words-requires c κs = search needs
 
 cast-number : tie.Need-cast-number
 cast-number c = widens (c .before .before .before .args .n) (c .before .before .before .fits .n)
@@ -34,12 +28,6 @@ cast-number-2 c =
     let m = f .sfits in
     rw (widened (c .before .before .before .args .n) f, distance (c .before .before .before .args .n) (rw n at (c .before .before .if1 .taken)), toZ-pos w64 {n = suc (mag (c .before .before .before .args .n))} (omega arith)) (tt, record { fits = omega arith })
 
-number-requires : tie.Need-number-requires
-number-requires c κs = search needs
-
-returns : tie.Need-returns
-returns c = search needs
-
 cast-number-3 : tie.Need-cast-number-3
 cast-number-3 c =
     let f = c .before .fits .n in
@@ -48,23 +36,17 @@ cast-number-3 c =
     let z = from-zero (c .before .args .n) (rw n at (c .if1 .left)) in
     rw n (z .0, record { fits = omega arith })
 
-number-requires-2 : tie.Need-number-requires-2
-number-requires-2 c κs = search needs
-
-returns-2 : tie.Need-returns-2
-returns-2 c = search needs
-
 pub signed-spec : {M : Type 1} → statement M
 signed-spec =
     tie.close
     (tie.spec
-    slice-aggregate-words
-    words-requires
+    (λ c. search needs)
+    (λ c κs. search needs)
     cast-number
     sub-number
     cast-number-2
-    number-requires
-    returns
+    (λ c κs. search needs)
+    (λ c. search needs)
     cast-number-3
-    number-requires-2
-    returns-2)
+    (λ c κs. search needs)
+    (λ c. search needs))

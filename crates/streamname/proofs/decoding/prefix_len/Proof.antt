@@ -3,9 +3,6 @@ use borrow.Author.Needs.{needs}
 use Rattle.streamname.proofs.decoding.prefix_len.Statement.{statement}
 use Rattle.streamname.proofs.decoding.prefix_len.Tie as tie
 
-is-table-name-requires : tie.Need-is-table-name-requires
-is-table-name-requires c κs = search needs
-
 returns : tie.Need-returns
 returns c = rw (sym (c .before .is-table-name .ensures) ∙ c .if1 .taken)
 
@@ -13,4 +10,4 @@ returns-2 : tie.Need-returns-2
 returns-2 c = rw (sym (c .before .is-table-name .ensures) ∙ c .if1 .left)
 
 pub prefix-len-spec : {M : Type 1} → statement M
-prefix-len-spec = tie.close (tie.spec is-table-name-requires returns returns-2)
+prefix-len-spec = tie.close (tie.spec (λ c κs. search needs) returns returns-2)

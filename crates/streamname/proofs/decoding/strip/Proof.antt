@@ -12,9 +12,6 @@ use Rattle.streamname.proofs.decoding.strip.Tie as tie
 within : (c : tie.After-prefix-len) → c .prefix-len .result ≤ length (now (c .before .before .args .stored))
 within c = rw (c .prefix-len .ensures) (prefix-within (now (c .before .before .args .stored)))
 
-prefix-len-requires : tie.Need-prefix-len-requires
-prefix-len-requires c κs = search needs
-
 mul-result : tie.Need-mul-result
 mul-result c = omega (arith, within c)
 
@@ -24,9 +21,6 @@ sub-result c = within c
 part-result-start : tie.Need-part-result-start
 part-result-start c = within c
 
-part-result-end : tie.Need-part-result-end
-part-result-end c = search needs
-
 returns : tie.Need-returns
 returns c =
     let s = now (c .before .before .before .args .stored) in
@@ -35,4 +29,4 @@ returns c =
 pub strip-spec : {M : Type 1} → statement M
 strip-spec =
     tie.close
-    (tie.spec prefix-len-requires mul-result sub-result part-result-start part-result-end returns)
+    (tie.spec (λ c κs. search needs) mul-result sub-result part-result-start (λ c. search needs) returns)

@@ -29,23 +29,8 @@ found k = omega (arith, rooms (k .before .before .before .loop .inv .1) (unitsOf
 loop-holds : tie.Need-loop-holds Inv-loop μ-loop
 loop-holds c = (omega arith, begin (omega arith))
 
-mul-unpack : tie.Need-mul-unpack Inv-loop μ-loop
-mul-unpack c = omega arith
-
-shared-slice-read-unpack : tie.Need-shared-slice-read-unpack Inv-loop μ-loop
-shared-slice-read-unpack c = omega arith
-
-unpack-requires : tie.Need-unpack-requires Inv-loop μ-loop
-unpack-requires c κs = tt
-
 put-units-requires : tie.Need-put-units-requires Inv-loop μ-loop
 put-units-requires c κs = omega (arith, found (c .before))
-
-add-i : tie.Need-add-i Inv-loop μ-loop
-add-i c = omega arith
-
-loop-less : tie.Need-loop-less Inv-loop μ-loop
-loop-less c = omega arith
 
 loop-again : tie.Need-loop-again Inv-loop μ-loop
 loop-again c =
@@ -70,12 +55,12 @@ write-decoded-spec =
     Inv-loop
     μ-loop
     loop-holds
-    mul-unpack
-    shared-slice-read-unpack
-    unpack-requires
+    (λ c. omega arith)
+    (λ c. omega arith)
+    (λ c κs. tt)
     put-units-requires
-    add-i
-    loop-less
+    (λ c. omega arith)
+    (λ c. omega arith)
     loop-again
     same-length
     returns)

@@ -19,47 +19,14 @@ a-is c = sym (c .before .before .before .to-b64 .ensures) ∙ ap letterOf (c .be
 b-is : (c : tie.After-known-told2) → toB64 (getD (now (c .before .before .before .before .before .before .before .before .before .before .before .before .args .name)) (c .before .before .before .before .before .before .before .before .before .before .before .before .args .at + 1) 0) ≡ some (c .before .b .given .0 .0)
 b-is c = sym (c .before .before .before .to-b642 .ensures) ∙ ap letterOf (c .before .b .given .1)
 
-mul-unit : tie.Need-mul-unit
-mul-unit c = search needs
-
-shared-slice-read-unit : tie.Need-shared-slice-read-unit
-shared-slice-read-unit c = search needs
-
-to-b64-requires : tie.Need-to-b64-requires
-to-b64-requires c κs = search needs
-
-enum-known-a : tie.Need-enum-known-a
-enum-known-a c = search needs
-
-enum-told : tie.Need-enum-told
-enum-told c = search needs
-
 returns : tie.Need-returns
 returns c = front-passes _ _ (c .before .before .before .before .before .pre) (sym (c .before .before .to-b64 .ensures) ∙ ap letterOf (c .enum-told .given .1))
 
 add-to-b64 : tie.Need-add-to-b64
 add-to-b64 c = omega (arith, letter-below _ _ (a-is c))
 
-add-next : tie.Need-add-next
-add-next c = search needs
-
 returns-2 : tie.Need-returns-2
 returns-2 c = front-last _ _ (c .before .before .before .before .before .before .before .pre) _ (a-is (c .before)) (c .if1 .taken)
-
-mul-to-b64 : tie.Need-mul-to-b64
-mul-to-b64 c = search needs
-
-shared-slice-read-to-b64 : tie.Need-shared-slice-read-to-b64
-shared-slice-read-to-b64 c = search needs
-
-to-b64-requires-2 : tie.Need-to-b64-requires-2
-to-b64-requires-2 c κs = search needs
-
-enum-known-b : tie.Need-enum-known-b
-enum-known-b c = search needs
-
-enum-told-2 : tie.Need-enum-told-2
-enum-told-2 c = search needs
 
 returns-3 : tie.Need-returns-3
 returns-3 c = front-lone _ _ (c .before .before .before .before .before .before .before .before .before .before .before .pre) _ (a-is (c .before .before .before .before .before)) (c .before .before .before .before .if1 .left) (sym (c .before .before .to-b642 .ensures) ∙ ap letterOf (c .enum-told2 .given .1))
@@ -80,20 +47,20 @@ pub pack-spec : {M : Type 1} → statement M
 pack-spec =
     tie.close
     (tie.spec
-    mul-unit
-    shared-slice-read-unit
-    to-b64-requires
-    enum-known-a
-    enum-told
+    (λ c. search needs)
+    (λ c. search needs)
+    (λ c κs. search needs)
+    (λ c. search needs)
+    (λ c. search needs)
     returns
     add-to-b64
-    add-next
+    (λ c. search needs)
     returns-2
-    mul-to-b64
-    shared-slice-read-to-b64
-    to-b64-requires-2
-    enum-known-b
-    enum-told-2
+    (λ c. search needs)
+    (λ c. search needs)
+    (λ c κs. search needs)
+    (λ c. search needs)
+    (λ c. search needs)
     returns-3
     mul-t10
     add-t15

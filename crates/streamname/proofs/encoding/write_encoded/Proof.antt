@@ -16,9 +16,6 @@ abbrev μ-loop : tie.MeasureT-loop
 loop-holds : tie.Need-loop-holds Inv-loop μ-loop
 loop-holds c = (omega arith, begin (omega arith))
 
-pack-requires : tie.Need-pack-requires Inv-loop μ-loop
-pack-requires c κs = omega arith
-
 mul-out : tie.Need-mul-out Inv-loop μ-loop
 mul-out c = omega (arith, room-front (c .before .before .loop .inv .1) (c .pack .ensures .packs), kept (c .before .before .loop .inv .1))
 
@@ -27,12 +24,6 @@ slice-write-out c = room-front (c .before .before .loop .inv .1) (c .pack .ensur
 
 add-at : tie.Need-add-at Inv-loop μ-loop
 add-at c = omega (arith, room-front (c .before .before .loop .inv .1) (c .pack .ensures .packs), kept (c .before .before .loop .inv .1))
-
-add-i : tie.Need-add-i Inv-loop μ-loop
-add-i c = omega arith
-
-loop-less : tie.Need-loop-less Inv-loop μ-loop
-loop-less c = omega arith
 
 loop-again : tie.Need-loop-again Inv-loop μ-loop
 loop-again c = (omega arith, step-front (c .before .before .before .loop .inv .1) (c .before .pack .ensures .packs))
@@ -54,12 +45,12 @@ write-encoded-spec =
     Inv-loop
     μ-loop
     loop-holds
-    pack-requires
+    (λ c κs. omega arith)
     mul-out
     slice-write-out
     add-at
-    add-i
-    loop-less
+    (λ c. omega arith)
+    (λ c. omega arith)
     loop-again
     same-length
     returns)

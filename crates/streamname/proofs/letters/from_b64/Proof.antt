@@ -4,12 +4,6 @@ use Rattle.streamname.proofs.LetterLaws.{spelled-is}
 use Rattle.streamname.proofs.letters.from_b64.Statement.{statement}
 use Rattle.streamname.proofs.letters.from_b64.Tie as tie
 
-sub-result : tie.Need-sub-result
-sub-result c = search needs
-
-add-result : tie.Need-add-result
-add-result c = search needs
-
 returns : tie.Need-returns
 returns c = rw (spelled-is _ (c .before .before .pre)) (simp (lt-ltb _ _ (c .before .if1 .taken), lt-ltb _ _ (c .if2 .taken)))
 
@@ -19,14 +13,8 @@ returns-2 c = rw (spelled-is _ (c .before .before .before .pre)) (simp (lt-ltb _
 returns-3 : tie.Need-returns-3
 returns-3 c = rw (spelled-is _ (c .before .before .before .pre)) (simp (lt-ltb _ _ (c .before .before .if1 .taken), le-ltb _ _ (c .before .if2 .left), ne-eqb _ _ (c .if3 .left)))
 
-add-result-2 : tie.Need-add-result-2
-add-result-2 c = search needs
-
 returns-4 : tie.Need-returns-4
 returns-4 c = rw (spelled-is _ (c .before .before .pre)) (simp (le-ltb _ _ (c .before .if1 .left), lt-ltb _ _ (c .if4 .taken)))
-
-add-result-3 : tie.Need-add-result-3
-add-result-3 c = search needs
 
 returns-5 : tie.Need-returns-5
 returns-5 c = rw (spelled-is _ (c .before .before .pre)) (simp (le-ltb _ _ (c .before .if1 .left), le-ltb _ _ (c .if4 .left)))
@@ -35,12 +23,12 @@ pub from-b64-spec : {M : Type 1} → statement M
 from-b64-spec =
     tie.close
     (tie.spec
-    sub-result
-    add-result
+    (λ c. search needs)
+    (λ c. search needs)
     returns
     returns-2
     returns-3
-    add-result-2
+    (λ c. search needs)
     returns-4
-    add-result-3
+    (λ c. search needs)
     returns-5)

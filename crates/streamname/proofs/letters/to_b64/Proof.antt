@@ -4,23 +4,11 @@ use Rattle.streamname.proofs.LetterLaws.{digit, upper, lower, other, do
 use Rattle.streamname.proofs.letters.to_b64.Statement.{statement}
 use Rattle.streamname.proofs.letters.to_b64.Tie as tie
 
-sub-t4 : tie.Need-sub-t4
-sub-t4 c = search needs
-
-add-t5 : tie.Need-add-t5
-add-t5 c = search needs
-
 returns : tie.Need-returns
 returns c = lower _ (omega arith) (omega arith)
 
 returns-2 : tie.Need-returns-2
 returns-2 c = other _ (omega arith) (omega arith) (omega arith) (omega arith) (omega arith)
-
-sub-t7 : tie.Need-sub-t7
-sub-t7 c = search needs
-
-add-t8 : tie.Need-add-t8
-add-t8 c = search needs
 
 returns-3 : tie.Need-returns-3
 returns-3 c = upper _ (omega arith) (omega arith)
@@ -47,12 +35,12 @@ pub to-b64-spec : {M : Type 1} → statement M
 to-b64-spec =
     tie.close
     (tie.spec
-    sub-t4
-    add-t5
+    (λ c. search needs)
+    (λ c. search needs)
     returns
     returns-2
-    sub-t7
-    add-t8
+    (λ c. search needs)
+    (λ c. search needs)
     returns-3
     returns-4
     returns-5

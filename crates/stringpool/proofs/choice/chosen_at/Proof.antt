@@ -6,12 +6,6 @@ use Rattle.stringpool.proofs.choice.chosen_at.Tie as tie
 returns : tie.Need-returns
 returns c = simp (le-leb _ _ (c .if1 .taken))
 
-mul-if2 : tie.Need-mul-if2
-mul-if2 c = search needs
-
-shared-slice-read-if2 : tie.Need-shared-slice-read-if2
-shared-slice-read-if2 c = search needs
-
 returns-2 : tie.Need-returns-2
 returns-2 c = simp (lt-leb _ _ (c .before .before .if1 .left), eq-eqb _ _ (c .if2 .taken))
 
@@ -19,4 +13,4 @@ returns-3 : tie.Need-returns-3
 returns-3 c = simp (lt-leb _ _ (c .before .before .if1 .left), ne-eqb _ _ (c .if2 .left))
 
 pub chosen-at-spec : {M : Type 1} → statement M
-chosen-at-spec = tie.close (tie.spec returns mul-if2 shared-slice-read-if2 returns-2 returns-3)
+chosen-at-spec = tie.close (tie.spec returns (λ c. search needs) (λ c. search needs) returns-2 returns-3)

@@ -4,15 +4,6 @@ use borrow.Author.Needs.{needs}
 use Rattle.stringpool.proofs.drops.drop_answer.Statement.{statement}
 use Rattle.stringpool.proofs.drops.drop_answer.Tie as tie
 
-enum-known-plan : tie.Need-enum-known-plan
-enum-known-plan c = search needs
-
-enum-told : tie.Need-enum-told
-enum-told c = search needs
-
-enum-told-2 : tie.Need-enum-told-2
-enum-told-2 c = search needs
-
 returns : tie.Need-returns
 returns c = sym (ap (droppedBy (c .before .before .before .args .p)) (c .before .plan .given .1))
 
@@ -24,4 +15,4 @@ returns-3 c = sym (ap (droppedBy (c .before .before .args .p)) (c .enum-told2 .g
 
 pub drop-answer-spec : {M : Type 1} → statement M
 drop-answer-spec =
-    tie.close (tie.spec enum-known-plan enum-told enum-told-2 returns returns-2 returns-3)
+    tie.close (tie.spec (λ c. search needs) (λ c. search needs) (λ c. search needs) returns returns-2 returns-3)

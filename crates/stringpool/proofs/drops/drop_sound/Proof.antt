@@ -23,26 +23,8 @@ fits c =
 there : (c : tie.After-enum-told2) → c .before .before .before .before .before .place2 .given .0 .0 .0 < c .before .before .before .before .before .before .before .before .before .before .args .p .«num_strings»
 there c = drop-fits _ _ (countAt (c .before .before .before .before .before .before .before .before .before .before .args .p .«num_strings») (c .before .before .before .before .before .before .before .before .before .before .args .counts .now) (c .before .before .before .before .before .place2 .given .0 .0 .0)) (sym (fits c)) .0
 
-place-requires : tie.Need-place-requires
-place-requires c κs = search needs
-
-enum-known-place : tie.Need-enum-known-place
-enum-known-place c = search needs
-
-enum-told : tie.Need-enum-told
-enum-told c = search needs
-
 returns : tie.Need-returns
 returns c = λ ts h. let s = c .before .before .before .before .before in drop-outside (s .args .p) (s .args .r .0) (rooms (s .args .lengths .now) (s .args .counts .now) ts) (sym (c .before .before .place .ensures) ∙ c .enum-told .given .1)
-
-count-of-requires : tie.Need-count-of-requires
-count-of-requires c κs = search needs
-
-drop-fits-requires : tie.Need-drop-fits-requires
-drop-fits-requires c κs = search needs
-
-enum-known-fits : tie.Need-enum-known-fits
-enum-known-fits c = search needs
 
 returns-2 : tie.Need-returns-2
 returns-2 c =
@@ -53,12 +35,6 @@ returns-2 c =
     let at = sym (c .before .before .before .before .before .before .before .before .place .ensures) ∙ c .before .before .before .before .before .before .place2 .given .1 in
     not-dropped (s .args .p) (s .args .r .0) w fit _ at _
     (sym (ap fitsAs (c .before .fits2 .given .1)) ∙ c .before .before .before .drop-fits .ensures ∙ ap (dropFits (s .args .p .«num_strings») (c .before .before .before .before .before .before .place2 .given .0 .0 .0)) (c .before .before .before .before .count-of .ensures))
-
-enum-told-2 : tie.Need-enum-told-2
-enum-told-2 c = search needs
-
-sub-t14 : tie.Need-sub-t14
-sub-t14 c = search needs
 
 returns-3 : tie.Need-returns-3
 returns-3 c =
@@ -96,16 +72,16 @@ pub drop-sound-spec : {M : Type 1} → statement M
 drop-sound-spec =
     tie.close
     (tie.spec
-    place-requires
-    enum-known-place
-    enum-told
+    (λ c κs. search needs)
+    (λ c. search needs)
+    (λ c. search needs)
     returns
-    count-of-requires
-    drop-fits-requires
-    enum-known-fits
+    (λ c κs. search needs)
+    (λ c κs. search needs)
+    (λ c. search needs)
     returns-2
-    enum-told-2
-    sub-t14
+    (λ c. search needs)
+    (λ c. search needs)
     returns-3
     start-of-requires
     mul-t16

@@ -11,15 +11,6 @@ use borrow.Author.Needs.{needs}
 use Rattle.stringpool.proofs.drops.plan_drop.Statement.{statement}
 use Rattle.stringpool.proofs.drops.plan_drop.Tie as tie
 
-judge-requires : tie.Need-judge-requires
-judge-requires c κs = search needs
-
-enum-known-j : tie.Need-enum-known-j
-enum-known-j c = search needs
-
-enum-known-j-2 : tie.Need-enum-known-j-2
-enum-known-j-2 c = search needs
-
 drop-sound-requires : tie.Need-drop-sound-requires
 drop-sound-requires c κs =
     let s = c .before .before .before .before .before .before .before in
@@ -43,4 +34,4 @@ returns-2 c =
 pub plan-drop-spec : {M : Type 1} → statement M
 plan-drop-spec =
     tie.close
-    (tie.spec judge-requires enum-known-j enum-known-j-2 drop-sound-requires returns returns-2)
+    (tie.spec (λ c κs. search needs) (λ c. search needs) (λ c. search needs) drop-sound-requires returns returns-2)

@@ -10,23 +10,11 @@ use borrow.Author.Needs.{needs}
 use Rattle.stringpool.proofs.entry.carry_out.Statement.{statement}
 use Rattle.stringpool.proofs.entry.carry_out.Tie as tie
 
-enum-told : tie.Need-enum-told
-enum-told c = search needs
-
-enum-known-plan : tie.Need-enum-known-plan
-enum-known-plan c = search needs
-
 mul-counts : tie.Need-mul-counts
 mul-counts c = let s = c .before .before .before .before .before .before .before in omega (arith, ready-by (rooms (s .args .lengths .now) (s .args .counts .now) (s .args .text .now)) (s .args .new .now) _ _ (c .before .plan .given .1) (s .pre) .0)
 
 slice-write-counts : tie.Need-slice-write-counts
 slice-write-counts c = let s = c .before .before .before .before .before .before .before in ready-by (rooms (s .args .lengths .now) (s .args .counts .now) (s .args .text .now)) (s .args .new .now) _ _ (c .before .plan .given .1) (s .pre) .1
-
-enum-known-plan-2 : tie.Need-enum-known-plan-2
-enum-known-plan-2 c = search needs
-
-replace-requires : tie.Need-replace-requires
-replace-requires c κs = search needs
 
 cast-lengths : tie.Need-cast-lengths
 cast-lengths c = let s = c .before .before .before .before .before .before .before .before .before .before .before in let r = ready-by (rooms (s .args .lengths .now) (s .args .counts .now) (s .args .text .now)) (s .args .new .now) _ _ (c .before .before .before .before .before .plan2 .given .1) (s .pre) in omega (arith, r .3)
@@ -46,20 +34,8 @@ slice-write-counts-2 c = let s = c .before .before .before .before .before .befo
 returns : tie.Need-returns
 returns c = let s = c .before .before .before .before .before .before in sym (ap (λ (x : Plan). carried x (rooms (s .args .lengths .now) (s .args .counts .now) (s .args .text .now)) (s .args .new .now)) (c .enum-told .given .1))
 
-same-length : tie.Need-same-length
-same-length c = search needs
-
 returns-2 : tie.Need-returns-2
 returns-2 c = let s = c .before .before .before .before .before .before .before in sym (ap (λ (x : Plan). carried x (rooms (s .args .lengths .now) (s .args .counts .now) (s .args .text .now)) (s .args .new .now)) (c .before .plan .given .1))
-
-same-length-2 : tie.Need-same-length-2
-same-length-2 c = search needs
-
-same-length-3 : tie.Need-same-length-3
-same-length-3 c = search needs
-
-same-length-4 : tie.Need-same-length-4
-same-length-4 c = search needs
 
 returns-3 : tie.Need-returns-3
 returns-3 c =
@@ -72,21 +48,21 @@ pub carry-out-spec : {M : Type 1} → statement M
 carry-out-spec =
     tie.close
     (tie.spec
-    enum-told
-    enum-known-plan
+    (λ c. search needs)
+    (λ c. search needs)
     mul-counts
     slice-write-counts
-    enum-known-plan-2
-    replace-requires
+    (λ c. search needs)
+    (λ c κs. search needs)
     cast-lengths
     mul-lengths
     slice-write-lengths
     mul-counts-2
     slice-write-counts-2
     returns
-    same-length
+    (λ c. search needs)
     returns-2
-    same-length-2
-    same-length-3
-    same-length-4
+    (λ c. search needs)
+    (λ c. search needs)
+    (λ c. search needs)
     returns-3)

@@ -9,24 +9,6 @@ use Rattle.stringpool.proofs.looks.look.Tie as tie
 abbrev W : tie.Start → Rooms
 W s = rooms (s .args .lengths .now) (s .args .counts .now) (s .args .text .now)
 
-choose-requires : tie.Need-choose-requires
-choose-requires c κs = search needs
-
-enum-told : tie.Need-enum-told
-enum-told c = search needs
-
-refused-requires : tie.Need-refused-requires
-refused-requires c κs = search needs
-
-enum-told-2 : tie.Need-enum-told-2
-enum-told-2 c = search needs
-
-refused-requires-2 : tie.Need-refused-requires-2
-refused-requires-2 c κs = search needs
-
-enum-known-choice : tie.Need-enum-known-choice
-enum-known-choice c = search needs
-
 chosen-at-requires : tie.Need-chosen-at-requires
 chosen-at-requires c κs =
     let s = c .before .before .before .before .before .before .before .before in
@@ -53,12 +35,12 @@ pub look-spec : {M : Type 1} → statement M
 look-spec =
     tie.close
     (tie.spec
-    choose-requires
-    enum-told
-    refused-requires
-    enum-told-2
-    refused-requires-2
-    enum-known-choice
+    (λ c κs. search needs)
+    (λ c. search needs)
+    (λ c κs. search needs)
+    (λ c. search needs)
+    (λ c κs. search needs)
+    (λ c. search needs)
     chosen-at-requires
     returns
     returns-2

@@ -11,21 +11,12 @@ abbrev Paged : tie.Start → Answer (Unit {0}) → Answer StringPool
 Paged s a =
     onGiven a (λ _. gives (record { «num_strings» = s .args .p .«num_strings»; «long_string_refs» = s .args .p .«long_string_refs»; codepage = s .args .codepage }))
 
-page-fits-requires : tie.Need-page-fits-requires
-page-fits-requires c κs = search needs
-
-enum-known-fits : tie.Need-enum-known-fits
-enum-known-fits c = search needs
-
 returns : tie.Need-returns
 returns c = ap (Paged (c .before .before .before .before)) (sym (ap fitsAs (c .before .fits2 .given .1)) ∙ c .before .before .before .page-fits .ensures)
-
-enum-told : tie.Need-enum-told
-enum-told c = search needs
 
 returns-2 : tie.Need-returns-2
 returns-2 c = ap (Paged (c .before .before .before)) (sym (ap fitsAs (c .enum-told .given .1)) ∙ c .before .before .page-fits .ensures)
 
 pub with-page-spec : {M : Type 1} → statement M
 with-page-spec =
-    tie.close (tie.spec page-fits-requires enum-known-fits returns enum-told returns-2)
+    tie.close (tie.spec (λ c κs. search needs) (λ c. search needs) returns (λ c. search needs) returns-2)

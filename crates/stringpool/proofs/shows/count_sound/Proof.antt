@@ -6,22 +6,10 @@ use borrow.Author.Needs.{needs}
 use Rattle.stringpool.proofs.shows.count_sound.Statement.{statement}
 use Rattle.stringpool.proofs.shows.count_sound.Tie as tie
 
-place-requires : tie.Need-place-requires
-place-requires c κs = search needs
-
-enum-known-place : tie.Need-enum-known-place
-enum-known-place c = search needs
-
-enum-told : tie.Need-enum-told
-enum-told c = search needs
-
 returns : tie.Need-returns
 returns c =
     let s = c .before .before .before .before in
     at-outside (s .args .r .0) (λ k. gives (countAt (s .args .n) (s .args .counts .now) k)) (sym (c .before .before .place .ensures) ∙ c .enum-told .given .1)
-
-count-of-requires : tie.Need-count-of-requires
-count-of-requires c κs = search needs
 
 returns-2 : tie.Need-returns-2
 returns-2 c =
@@ -33,9 +21,9 @@ pub count-sound-spec : {M : Type 1} → statement M
 count-sound-spec =
     tie.close
     (tie.spec
-    place-requires
-    enum-known-place
-    enum-told
+    (λ c κs. search needs)
+    (λ c. search needs)
+    (λ c. search needs)
     returns
-    count-of-requires
+    (λ c κs. search needs)
     returns-2)

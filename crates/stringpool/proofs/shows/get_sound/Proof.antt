@@ -12,25 +12,10 @@ use borrow.Author.Needs.{needs}
 use Rattle.stringpool.proofs.shows.get_sound.Statement.{statement}
 use Rattle.stringpool.proofs.shows.get_sound.Tie as tie
 
-place-requires : tie.Need-place-requires
-place-requires c κs = search needs
-
-enum-known-place : tie.Need-enum-known-place
-enum-known-place c = search needs
-
-enum-told : tie.Need-enum-told
-enum-told c = search needs
-
-slice-aggregate-result : tie.Need-slice-aggregate-result
-slice-aggregate-result c = search needs
-
 returns : tie.Need-returns
 returns c =
     let s = c .before .before .before .before .before .before in
     ap orEmpty (at-outside (s .args .r .0) (λ k. gives (partAt (s .args .n) (s .args .lengths .now) (s .args .text .now) k)) (sym (c .before .before .before .place .ensures) ∙ c .before .enum-told .given .1))
-
-slice-aggregate-result-2 : tie.Need-slice-aggregate-result-2
-slice-aggregate-result-2 c = search needs
 
 returns-2 : tie.Need-returns-2
 returns-2 c =
@@ -44,12 +29,6 @@ start-of-requires c κs =
     let k : ℕ = c .before .before .place2 .given .0 .0 .0 in
     omega (arith, s .pre, total-le (s .args .lengths .now) k (s .args .n) (omega arith))
 
-mul-end : tie.Need-mul-end
-mul-end c = search needs
-
-shared-slice-read-end : tie.Need-shared-slice-read-end
-shared-slice-read-end c = search needs
-
 cast-end : tie.Need-cast-end
 cast-end c = omega (arith, c .shared-slice-known3 .given (c .before .before .before .before .place2 .given .0 .0 .0))
 
@@ -58,12 +37,6 @@ add-end c =
     let s = c .before .before .before .before .before .before .before .before .before in
     let k : ℕ = c .before .before .before .before .place2 .given .0 .0 .0 in
     omega (arith, s .pre, c .before .start-of .ensures, total-in (s .args .lengths .now) k (s .args .n) (c .before .before .if1 .left) (s .pre .0))
-
-sub-result : tie.Need-sub-result
-sub-result c = search needs
-
-part-result-start : tie.Need-part-result-start
-part-result-start c = search needs
 
 part-result-end : tie.Need-part-result-end
 part-result-end c =
@@ -85,19 +58,19 @@ pub get-sound-spec : {M : Type 1} → statement M
 get-sound-spec =
     tie.close
     (tie.spec
-    place-requires
-    enum-known-place
-    enum-told
-    slice-aggregate-result
+    (λ c κs. search needs)
+    (λ c. search needs)
+    (λ c. search needs)
+    (λ c. search needs)
     returns
-    slice-aggregate-result-2
+    (λ c. search needs)
     returns-2
     start-of-requires
-    mul-end
-    shared-slice-read-end
+    (λ c. search needs)
+    (λ c. search needs)
     cast-end
     add-end
-    sub-result
-    part-result-start
+    (λ c. search needs)
+    (λ c. search needs)
     part-result-end
     returns-3)

@@ -11,11 +11,8 @@ use Rattle.stringpool.proofs.takes.holding.Tie as tie
 returns : tie.Need-returns
 returns c = let s = c .before .before in sym (ap (λ (b : Bool). if b then s .args .p else counting (s .args .p) (s .args .at + 1)) (lt-ltb _ _ (c .if1 .taken)))
 
-add-t4 : tie.Need-add-t4
-add-t4 c = search needs
-
 returns-2 : tie.Need-returns-2
 returns-2 c = let s = c .before .before in sym (ap (λ (b : Bool). if b then s .args .p else counting (s .args .p) (s .args .at + 1)) (le-ltb _ _ (c .if1 .left)))
 
 pub holding-spec : {M : Type 1} → statement M
-holding-spec = tie.close (tie.spec returns add-t4 returns-2)
+holding-spec = tie.close (tie.spec returns (λ c. search needs) returns-2)

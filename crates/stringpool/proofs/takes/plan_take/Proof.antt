@@ -1,4 +1,4 @@
-use mathlib.Core.Path.{refl, sym, ap, _∙_}
+use mathlib.Core.Path.{sym, ap, _∙_}
 use native.Mathlib.Omega.{arith}
 use Rattle.common.proofs.Sums.{total-in}
 use Rattle.stringpool.specs.Pool.{rooms}
@@ -8,18 +8,6 @@ use Rattle.stringpool.proofs.Taking.{take-refused, equal-done, look-kno
 use borrow.Author.Needs.{needs}
 use Rattle.stringpool.proofs.takes.plan_take.Statement.{statement}
 use Rattle.stringpool.proofs.takes.plan_take.Tie as tie
-
-look-requires : tie.Need-look-requires
-look-requires c κs = search needs
-
-enum-known-judged : tie.Need-enum-known-judged
-enum-known-judged c = search needs
-
-enum-known-judged-2 : tie.Need-enum-known-judged-2
-enum-known-judged-2 c = search needs
-
-enum-known-chosen : tie.Need-enum-known-chosen
-enum-known-chosen c = search needs
 
 mul-t19 : tie.Need-mul-t19
 mul-t19 c =
@@ -38,9 +26,6 @@ add-t22 c =
     let s = c .before .before .before .before .before .before .before .before .before .before .before .before in
     let w = rooms (s .args .lengths .now) (s .args .counts .now) (s .args .text .now) in
     omega (arith, look-equal (s .args .p) w (s .args .new .now) _ _ _ _ (c .before .before .before .before .before .before .before .look .ensures) (c .before .before .before .before .before .judged2 .given .1) _ (c .before .before .chosen .given .1) .2)
-
-enum-known-chosen-2 : tie.Need-enum-known-chosen-2
-enum-known-chosen-2 c = search needs
 
 mul-old : tie.Need-mul-old
 mul-old c =
@@ -64,12 +49,6 @@ put-free-requires c κs =
     let h = look-free (s .args .p) w (s .args .new .now) _ _ _ _ (c .before .before .before .before .before .before .before .look .ensures) (c .before .before .before .before .before .judged2 .given .1) _ (c .before .before .chosen2 .given .1) in
     let q = look-known (s .args .p) w (s .args .new .now) _ _ _ _ (c .before .before .before .before .before .before .before .look .ensures) (c .before .before .before .before .before .judged2 .given .1) in
     (omega (arith, h .within, q .few), omega (arith, q .sum, total-in (s .args .lengths .now) (c .before .before .chosen2 .given .0 .0 .0) (s .args .p .«num_strings») (h .within) (q .fit .lengths)), omega (arith, q .sum, q .fit .text, q .large), q .small)
-
-enum-told : tie.Need-enum-told
-enum-told c = search needs
-
-entry-room-requires : tie.Need-entry-room-requires
-entry-room-requires c κs = search needs
 
 put-added-requires : tie.Need-put-added-requires
 put-added-requires c κs =
@@ -111,20 +90,20 @@ pub plan-take-spec : {M : Type 1} → statement M
 plan-take-spec =
     tie.close
     (tie.spec
-    look-requires
-    enum-known-judged
-    enum-known-judged-2
-    enum-known-chosen
+    (λ c κs. search needs)
+    (λ c. search needs)
+    (λ c. search needs)
+    (λ c. search needs)
     mul-t19
     shared-slice-read-t21
     add-t22
-    enum-known-chosen-2
+    (λ c. search needs)
     mul-old
     shared-slice-read-old
     cast-old
     put-free-requires
-    enum-told
-    entry-room-requires
+    (λ c. search needs)
+    (λ c κs. search needs)
     put-added-requires
     returns
     returns-2

@@ -5,18 +5,6 @@ use borrow.Author.Needs.{needs}
 use Rattle.stringpool.proofs.takes.put_added.Statement.{statement}
 use Rattle.stringpool.proofs.takes.put_added.Tie as tie
 
-add-add-fits : tie.Need-add-add-fits
-add-add-fits c = search needs
-
-add-fits-requires : tie.Need-add-fits-requires
-add-fits-requires c κs = search needs
-
-enum-known-fits : tie.Need-enum-known-fits
-enum-known-fits c = search needs
-
-enum-told : tie.Need-enum-told
-enum-told c = search needs
-
 returns : tie.Need-returns
 returns c = λ w t q r. not-added (c .before .before .before .before .args .p) _ _ _ _ w t q r _ (sym (ap fitsAs (c .before .fits2 .given .1)) ∙ c .before .before .before .add-fits .ensures)
 
@@ -26,4 +14,4 @@ returns-2 c = λ w t q r. added (c .before .before .before .args .p) _ _ _ _ w t
 pub put-added-spec : {M : Type 1} → statement M
 put-added-spec =
     tie.close
-    (tie.spec add-add-fits add-fits-requires enum-known-fits enum-told returns returns-2)
+    (tie.spec (λ c. search needs) (λ c κs. search needs) (λ c. search needs) (λ c. search needs) returns returns-2)

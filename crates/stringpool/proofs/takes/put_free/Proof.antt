@@ -3,12 +3,6 @@ use borrow.Author.Needs.{needs}
 use Rattle.stringpool.proofs.takes.put_free.Statement.{statement}
 use Rattle.stringpool.proofs.takes.put_free.Tie as tie
 
-sub-if1 : tie.Need-sub-if1
-sub-if1 c = search needs
-
-add-if1 : tie.Need-add-if1
-add-if1 c = search needs
-
 returns : tie.Need-returns
 returns c = λ w t q f. free-refused (c .before .args .p) (c .before .args .place) _ _ _ _ _ w t q f (c .if1 .taken)
 
@@ -16,4 +10,4 @@ returns-2 : tie.Need-returns-2
 returns-2 c = λ w t q f. free-planned (c .before .args .p) (c .before .args .place) _ _ _ _ _ w t q f (c .if1 .left)
 
 pub put-free-spec : {M : Type 1} → statement M
-put-free-spec = tie.close (tie.spec sub-if1 add-if1 returns returns-2)
+put-free-spec = tie.close (tie.spec (λ c. search needs) (λ c. search needs) returns returns-2)

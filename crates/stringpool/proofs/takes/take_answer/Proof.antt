@@ -2,23 +2,14 @@ use native.Mathlib.Omega.{arith}
 use mathlib.Core.Path.{sym, ap, ap₂, subst, _∙_}
 use Rattle.stringpool.specs.inner.Take.{takenBy, Numbered}
 use Rattle.stringpool.specs.declared.pool.StringPool.{StringPool}
-use Rattle.stringpool.specs.declared.refs.StringRef.{StringRef}
+use Rattle.string_ref.specs.declared.StringRef.{StringRef}
 use Rattle.common.specs.Answers.{gives}
 use borrow.Author.Needs.{needs}
 use Rattle.stringpool.proofs.takes.take_answer.Statement.{statement}
 use Rattle.stringpool.proofs.takes.take_answer.Tie as tie
 
-enum-known-plan : tie.Need-enum-known-plan
-enum-known-plan c = search needs
-
-enum-known-plan-2 : tie.Need-enum-known-plan-2
-enum-known-plan-2 c = search needs
-
 reference-requires : tie.Need-reference-requires
 reference-requires c κs = subst Numbered (c .before .plan2 .given .1) (c .before .before .before .pre)
-
-enum-known-plan-3 : tie.Need-enum-known-plan-3
-enum-known-plan-3 c = search needs
 
 reference-requires-2 : tie.Need-reference-requires-2
 reference-requires-2 c κs = omega (arith, subst Numbered (c .before .plan3 .given .1) (c .before .before .before .pre))
@@ -39,10 +30,10 @@ pub take-answer-spec : {M : Type 1} → statement M
 take-answer-spec =
     tie.close
     (tie.spec
-    enum-known-plan
-    enum-known-plan-2
+    (λ c. search needs)
+    (λ c. search needs)
     reference-requires
-    enum-known-plan-3
+    (λ c. search needs)
     reference-requires-2
     holding-requires
     returns

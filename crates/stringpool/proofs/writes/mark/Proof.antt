@@ -4,9 +4,6 @@ use borrow.Author.Needs.{needs}
 use Rattle.stringpool.proofs.writes.mark.Statement.{statement}
 use Rattle.stringpool.proofs.writes.mark.Tie as tie
 
-add-result : tie.Need-add-result
-add-result c = search needs
-
 returns : tie.Need-returns
 returns c = let f = c .if1 .taken in simp f
 
@@ -14,4 +11,4 @@ returns-2 : tie.Need-returns-2
 returns-2 c = let f = c .if1 .left in simp f (sym (add-zero _))
 
 pub mark-spec : {M : Type 1} → statement M
-mark-spec = tie.close (tie.spec add-result returns returns-2)
+mark-spec = tie.close (tie.spec (λ c. search needs) returns returns-2)

@@ -20,12 +20,6 @@ slice-aggregate-copy-in c =
     let s = c .before .before .before .before .before in
     sym (length-take-le (s .args .used) (s .args .text .now) (s .pre))
 
-copy-in-requires : tie.Need-copy-in-requires
-copy-in-requires c κs = search needs
-
-same-length : tie.Need-same-length
-same-length c = search needs
-
 returns-2 : tie.Need-returns-2
 returns-2 c =
     let s = c .before .before .before .before .before .before .before .before in
@@ -36,4 +30,4 @@ returns-2 c =
 
 pub write-texts-spec : {M : Type 1} → statement M
 write-texts-spec =
-    tie.close (tie.spec returns slice-aggregate-copy-in copy-in-requires same-length returns-2)
+    tie.close (tie.spec returns slice-aggregate-copy-in (λ c κs. search needs) (λ c. search needs) returns-2)

@@ -2,7 +2,7 @@
 use Rattle.table.proofs.Layouts.{noColumn, type-at, sound-at}
 use Rattle.table.specs.Rows.{typeAt}
 use Rattle.table.specs.Layout.{typesOf}
-use Rattle.column.specs.Forms.{formFor, formAs, formAnswer}
+use Rattle.column_type.specs.Forms.{formFor, formAs, formAnswer}
 use Rattle.common.specs.Answers.{gives}
 use lib.ListN.{length, getD, length-map}
 use native.Mathlib.Omega.{arith}
@@ -22,21 +22,6 @@ form-is c =
     let e : formAs (c .form .result) ≡ formAnswer (a .c) (getD (a .t1 .columns) (a .c) noColumn .coltype) (a .t1 .«long_string_refs») = c .form .ensures in
     rw t (e ∙ rw s)
 
-mul-column : tie.Need-mul-column
-mul-column c = search needs
-
-element-copy-out-column : tie.Need-element-copy-out-column
-element-copy-out-column c = search needs
-
-form-requires : tie.Need-form-requires
-form-requires c κs = search needs
-
-enum-known-form : tie.Need-enum-known-form
-enum-known-form c = search needs
-
-enum-told : tie.Need-enum-told
-enum-told c = search needs
-
 returns : tie.Need-returns
 returns c = absurd (let e = rw (c .enum-told .given .1) at (form-is (c .before .before)) in let y : _≡_ {A = ℕ} 0 1 = cc in omega arith)
 
@@ -47,10 +32,10 @@ pub form-at-spec : {M : Type 1} → statement M
 form-at-spec =
     tie.close
     (tie.spec
-    mul-column
-    element-copy-out-column
-    form-requires
-    enum-known-form
-    enum-told
+    (λ c. search needs)
+    (λ c. search needs)
+    (λ c κs. search needs)
+    (λ c. search needs)
+    (λ c. search needs)
     returns
     returns-2)

@@ -1,7 +1,7 @@
 -- `layout::judge` meets its contract: what the columns that are left say, is what all say. Assumes nothing.
 use Rattle.table.proofs.Layouts.{noColumn, columns-next, columns-done, at-turn, at-stop, form-said}
 use Rattle.table.specs.Layout.{columnsOf, eachAt, soundColumn}
-use Rattle.column.specs.Forms.{formAs, formAnswer}
+use Rattle.column_type.specs.Forms.{formAs, formAnswer}
 use Rattle.common.specs.Answers.{refusalOf}
 use lib.ListN.{length, getD, drop, length-map}
 use borrow.Author.Tests.{lt-ltb, le-ltb}
@@ -47,12 +47,6 @@ mul-column c = omega (arith, c .before .before .before .pre, c .before .before .
 element-copy-out-column : tie.Need-element-copy-out-column Inv-loop μ-loop
 element-copy-out-column c = omega (arith, c .before .before .before .pre, c .before .before .if1 .left)
 
-form-requires : tie.Need-form-requires Inv-loop μ-loop
-form-requires c κs = tt
-
-enum-known-form : tie.Need-enum-known-form Inv-loop μ-loop
-enum-known-form c = search needs
-
 returns-2 : tie.Need-returns-2 Inv-loop μ-loop
 returns-2 c =
     let k = c .before .before .before .before .before .before .loop .c in
@@ -61,15 +55,6 @@ returns-2 c =
     rw (le-ltb _ _ (c .before .before .before .before .before .before .before .if1 .left))
     (at-stop soundColumn x (drop (k + 1) (columnsOf t)) k _ _ (sym (said (c .before .before .before)) ∙ ap (λ f. refusalOf (formAs f)) (c .before .form2 .given .1))
     ∙ rw (next (c .before .before .before .before .before)) at (c .before .before .before .before .before .before .loop .inv .1))
-
-enum-told : tie.Need-enum-told Inv-loop μ-loop
-enum-told c = search needs
-
-add-c : tie.Need-add-c Inv-loop μ-loop
-add-c c = search needs
-
-loop-less : tie.Need-loop-less Inv-loop μ-loop
-loop-less c = search needs
 
 loop-again : tie.Need-loop-again Inv-loop μ-loop
 loop-again c =
@@ -94,11 +79,11 @@ judge-spec =
     loop-holds
     mul-column
     element-copy-out-column
-    form-requires
-    enum-known-form
+    (λ c κs. tt)
+    (λ c. search needs)
     returns-2
-    enum-told
-    add-c
-    loop-less
+    (λ c. search needs)
+    (λ c. search needs)
+    (λ c. search needs)
     loop-again
     returns-3)

@@ -4,9 +4,9 @@ use Rattle.table.specs.inner.Layout.{widthsOf, startsFrom, zeros}
 use Rattle.table.specs.declared.layout.Table.{Table}
 use Rattle.table.specs.Rows.{rowSize, typeAt}
 use Rattle.table.specs.Layout.{columnsOf, typesOf}
-use Rattle.column.proofs.Cells.{width-le, form-width}
-use Rattle.column.specs.Cells.{width}
-use Rattle.column.specs.declared.column.ColumnType.{ColumnType}
+use Rattle.column_type.proofs.Cells.{width-le, form-width}
+use Rattle.column_type.specs.Cells.{width}
+use Rattle.column_type.specs.declared.form.ColumnType.{ColumnType}
 use Rattle.column.specs.declared.column.Column.{Column}
 use Rattle.common.proofs.Parts.{over-none}
 use Rattle.common.specs.Lists.{overAt, _over_}
@@ -51,9 +51,6 @@ loop-holds c = (omega arith, omega arith, refl, refl, refl, refl, omega arith)
 form-at-requires : tie.Need-form-at-requires Inv-loop μ-loop
 form-at-requires c κs = (c .before .before .pre, c .loop-test .taken)
 
-width-requires : tie.Need-width-requires Inv-loop μ-loop
-width-requires c κs = tt
-
 mul-widths : tie.Need-mul-widths Inv-loop μ-loop
 mul-widths c = omega (arith, c .before .before .before .before .pre .0)
 
@@ -68,12 +65,6 @@ array-write-starts c = omega (arith, c .before .before .before .before .pre .0)
 
 add-at : tie.Need-add-at Inv-loop μ-loop
 add-at c = omega (arith, width-is c, width-le (typeAt (typesOf (c .before .before .before .before .args .table)) (c .before .before .before .loop .c)) (c .before .before .before .before .args .table .«long_string_refs»), c .before .before .before .before .pre .0)
-
-add-c : tie.Need-add-c Inv-loop μ-loop
-add-c c = omega arith
-
-loop-less : tie.Need-loop-less Inv-loop μ-loop
-loop-less c = omega arith
 
 loop-again : tie.Need-loop-again Inv-loop μ-loop
 loop-again c =
@@ -110,13 +101,13 @@ layout-of-spec =
     μ-loop
     loop-holds
     form-at-requires
-    width-requires
+    (λ c κs. tt)
     mul-widths
     array-write-widths
     mul-starts
     array-write-starts
     add-at
-    add-c
-    loop-less
+    (λ c. omega arith)
+    (λ c. omega arith)
     loop-again
     returns)

@@ -3,8 +3,8 @@ use Rattle.table.proofs.Layouts.{types-count, start-at, width-at, colum
 use Rattle.table.specs.Rows.{rowSize, typeAt}
 use Rattle.table.specs.Layout.{typesOf}
 use Rattle.table.specs.declared.layout.Layout.{Layout}
-use Rattle.column.proofs.Cells.{width-le, form-width, form-unstored}
-use Rattle.column.specs.Cells.{width}
+use Rattle.column_type.proofs.Cells.{width-le, form-width, form-unstored}
+use Rattle.column_type.specs.Cells.{width}
 use lib.ListN.{length, length-map, getD, take}
 use native.Mathlib.Omega.{arith}
 use native.Mathlib.Nat.{mul-le-mul-right}
@@ -38,24 +38,6 @@ small c =
       omega (arith, mul-le-mul-right {m = c .args .row} {n = 65536} w (omega arith), width-le (typeAt (typesOf t) (c .args .column)) long),
     )
 
-layout-of-requires : tie.Need-layout-of-requires
-layout-of-requires c κs = search needs
-
-mul-start : tie.Need-mul-start
-mul-start c = search needs
-
-element-copy-out-start : tie.Need-element-copy-out-start
-element-copy-out-start c = search needs
-
-mul-width : tie.Need-mul-width
-mul-width c = search needs
-
-element-copy-out-width : tie.Need-element-copy-out-width
-element-copy-out-width c = search needs
-
-form-at-requires : tie.Need-form-at-requires
-form-at-requires c κs = search needs
-
 mul-read-value : tie.Need-mul-read-value
 mul-read-value c = rw (start-is (c .before .before .before)) (omega (arith, small (c .before .before .before .before .before)))
 
@@ -64,9 +46,6 @@ mul-read-value-2 c = rw (width-is (c .before .before .before)) (omega (arith, sm
 
 add-read-value : tie.Need-add-read-value
 add-read-value c = rw (start-is (c .before .before .before), width-is (c .before .before .before)) (omega (arith, small (c .before .before .before .before .before)))
-
-read-value-requires : tie.Need-read-value-requires
-read-value-requires c κs = search needs
 
 returns : tie.Need-returns
 returns c =
@@ -79,14 +58,14 @@ pub cell-in-spec : {M : Type 1} → statement M
 cell-in-spec =
     tie.close
     (tie.spec
-    layout-of-requires
-    mul-start
-    element-copy-out-start
-    mul-width
-    element-copy-out-width
-    form-at-requires
+    (λ c κs. search needs)
+    (λ c. search needs)
+    (λ c. search needs)
+    (λ c. search needs)
+    (λ c. search needs)
+    (λ c κs. search needs)
     mul-read-value
     mul-read-value-2
     add-read-value
-    read-value-requires
+    (λ c κs. search needs)
     returns)

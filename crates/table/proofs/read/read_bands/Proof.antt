@@ -36,12 +36,6 @@ layout-of-requires c κs = c .before .before .pre .0
 loop-holds : tie.Need-loop-holds Inv-loop μ-loop
 loop-holds c = (omega arith, band-begin _ 0 _ _ _ (c .before .before .before .pre .3), band-begin _ (pos 0) _ _ _ (c .before .before .before .pre .4))
 
-sub-near : tie.Need-sub-near Inv-loop μ-loop
-sub-near c = omega arith
-
-near-requires : tie.Need-near-requires Inv-loop μ-loop
-near-requires c κs = tt
-
 mul-at : tie.Need-mul-at Inv-loop μ-loop
 mul-at c = omega (arith, band c)
 
@@ -51,23 +45,11 @@ mul-end c = omega (arith, band c)
 add-end : tie.Need-add-end Inv-loop μ-loop
 add-end c = omega (arith, band c)
 
-sub-read-columns : tie.Need-sub-read-columns Inv-loop μ-loop
-sub-read-columns c = omega arith
-
-part-read-columns-start : tie.Need-part-read-columns-start Inv-loop μ-loop
-part-read-columns-start c = omega arith
-
 part-read-columns-end : tie.Need-part-read-columns-end Inv-loop μ-loop
 part-read-columns-end c = omega (arith, band c, kept (c .before .before .loop .inv .1), c .before .before .before .before .before .before .pre .3)
 
 mul-read-columns : tie.Need-mul-read-columns Inv-loop μ-loop
 mul-read-columns c = omega (arith, band (c .before))
-
-sub-read-columns-2 : tie.Need-sub-read-columns-2 Inv-loop μ-loop
-sub-read-columns-2 c = omega arith
-
-part-read-columns-start-2 : tie.Need-part-read-columns-start-2 Inv-loop μ-loop
-part-read-columns-start-2 c = omega arith
 
 part-read-columns-end-2 : tie.Need-part-read-columns-end-2 Inv-loop μ-loop
 part-read-columns-end-2 c = omega (arith, band (c .before), kept (c .before .before .before .loop .inv .2), c .before .before .before .before .before .before .before .pre .4)
@@ -124,17 +106,17 @@ read-bands-spec =
     μ-loop
     layout-of-requires
     loop-holds
-    sub-near
-    near-requires
+    (λ c. omega arith)
+    (λ c κs. tt)
     mul-at
     mul-end
     add-end
-    sub-read-columns
-    part-read-columns-start
+    (λ c. omega arith)
+    (λ c. omega arith)
     part-read-columns-end
     mul-read-columns
-    sub-read-columns-2
-    part-read-columns-start-2
+    (λ c. omega arith)
+    (λ c. omega arith)
     part-read-columns-end-2
     read-columns-requires
     add-first

@@ -9,9 +9,9 @@ use Rattle.table.specs.inner.Columns.{rowsFrom}
 use Rattle.table.specs.Rows.{rowSize, typeAt, cellAt}
 use Rattle.table.specs.Layout.{typesOf}
 use Rattle.table.specs.declared.layout.Layout.{Layout}
-use Rattle.column.proofs.Cells.{form-width}
-use Rattle.column.specs.Forms.{formFor}
-use Rattle.column.specs.Cells.{width}
+use Rattle.column_type.proofs.Cells.{form-width}
+use Rattle.column_type.specs.Forms.{formFor}
+use Rattle.column_type.specs.Cells.{width}
 use lib.ListN.{length, length-map, getD, take}
 use lib.IntN.{ℤ, pos}
 use native.Mathlib.Omega.{arith}
@@ -86,15 +86,6 @@ add-start c = rw (start-is (c .before .before), width-is (c .before .before)) (o
 form-at-requires : tie.Need-form-at-requires Inv-loop μ-loop
 form-at-requires c κs = (c .before .before .before .before .before .before .pre .0, c .before .before .loop-test .taken)
 
-read-column-requires : tie.Need-read-column-requires Inv-loop μ-loop
-read-column-requires c κs = tt
-
-add-c : tie.Need-add-c Inv-loop μ-loop
-add-c c = omega arith
-
-loop-less : tie.Need-loop-less Inv-loop μ-loop
-loop-less c = omega arith
-
 loop-again : tie.Need-loop-again Inv-loop μ-loop
 loop-again c =
     let k = c .before .before .before .before .before .before .before .before .before in
@@ -153,9 +144,9 @@ read-columns-spec =
     mul-start-4
     add-start
     form-at-requires
-    read-column-requires
-    add-c
-    loop-less
+    (λ c κs. tt)
+    (λ c. omega arith)
+    (λ c. omega arith)
     loop-again
     same-length
     same-length-2

@@ -7,11 +7,8 @@ use Rattle.table.proofs.read.rows_of.Tie as tie
 returns : tie.Need-returns
 returns c = rw (eq-eqb _ _ (c .if1 .taken))
 
-div-result : tie.Need-div-result
-div-result c = search needs
-
 returns-2 : tie.Need-returns-2
 returns-2 c = rw (ne-eqb _ _ (c .if1 .left))
 
 pub rows-of-spec : {M : Type 1} → statement M
-rows-of-spec = tie.close (tie.spec returns div-result returns-2)
+rows-of-spec = tie.close (tie.spec returns (λ c. search needs) returns-2)

@@ -1,5 +1,5 @@
 -- `write::judge_columns` meets its contract: what the columns that are left say, is what all say. Assumes nothing.
-use Rattle.column.specs.Forms.{formFor}
+use Rattle.column_type.specs.Forms.{formFor}
 use Rattle.table.proofs.Column.{column-judged, table-judged}
 use Rattle.table.proofs.Layouts.{types-count}
 use Rattle.cells.proofs.Each.{each-turn, each-stop, each-end}
@@ -63,26 +63,11 @@ loop-holds c = (omega arith, rw sub-zero)
 form-at-requires : tie.Need-form-at-requires Inv-loop μ-loop
 form-at-requires c κs = (c .before .before .before .pre .0, c .loop-test .taken)
 
-judge-column-requires : tie.Need-judge-column-requires Inv-loop μ-loop
-judge-column-requires c κs = tt
-
-enum-known-verdict : tie.Need-enum-known-verdict Inv-loop μ-loop
-enum-known-verdict c = search needs
-
 returns : tie.Need-returns Inv-loop μ-loop
 returns c =
     let l = c .before .before .before .before .before .before .loop in
     each-stop (bytesIn (c .before .before .before .before .before .before .before .before)) (l .c) (c .before .before .before .before .before .before .before .before .args .table .count) (c .before .before .before .before .before .loop-test .taken) _ _ (said (c .before .before .before) ∙ ap fitsAs (c .before .verdict .given .1))
     ∙ l .inv .1 ∙ whole (c .before .before .before .before .before .before .before .before)
-
-enum-told : tie.Need-enum-told Inv-loop μ-loop
-enum-told c = search needs
-
-add-c : tie.Need-add-c Inv-loop μ-loop
-add-c c = search needs
-
-loop-less : tie.Need-loop-less Inv-loop μ-loop
-loop-less c = search needs
 
 loop-again : tie.Need-loop-again Inv-loop μ-loop
 loop-again c =
@@ -102,11 +87,11 @@ judge-columns-spec =
     μ-loop
     loop-holds
     form-at-requires
-    judge-column-requires
-    enum-known-verdict
+    (λ c κs. tt)
+    (λ c. search needs)
     returns
-    enum-told
-    add-c
-    loop-less
+    (λ c. search needs)
+    (λ c. search needs)
+    (λ c. search needs)
     loop-again
     returns-2)

@@ -10,9 +10,9 @@ use Rattle.table.specs.inner.Columns.{givenBytes, plain}
 use Rattle.table.specs.Writing.{Cells, columnBytes}
 use Rattle.table.specs.Rows.{rowSize, typeAt}
 use Rattle.table.specs.Layout.{typesOf}
-use Rattle.column.proofs.Cells.{form-width}
-use Rattle.column.specs.Forms.{formFor}
-use Rattle.column.specs.Cells.{width}
+use Rattle.column_type.proofs.Cells.{form-width}
+use Rattle.column_type.specs.Forms.{formFor}
+use Rattle.column_type.specs.Cells.{width}
 use Rattle.common.proofs.Parts.{over-none, lent-turn, length-tail}
 use Rattle.common.specs.Answers.{Answer, gives, refusalOf, each}
 use Rattle.common.specs.Lists.{_over_, overAt, from}
@@ -80,23 +80,11 @@ part-write-column-start c = omega (arith, room (c .before))
 part-write-column-end : tie.Need-part-write-column-end Inv-loop μ-loop
 part-write-column-end c = omega (arith, room (c .before))
 
-write-column-requires : tie.Need-write-column-requires Inv-loop μ-loop
-write-column-requires c κs = tt
-
-width-requires : tie.Need-width-requires Inv-loop μ-loop
-width-requires c κs = tt
-
 mul-at : tie.Need-mul-at Inv-loop μ-loop
 mul-at c = rw (width-is c) (omega (arith, room (c .before .before .before .before .before .before)))
 
 add-at : tie.Need-add-at Inv-loop μ-loop
 add-at c = rw (width-is c) (omega (arith, room (c .before .before .before .before .before .before)))
-
-add-c : tie.Need-add-c Inv-loop μ-loop
-add-c c = omega arith
-
-loop-less : tie.Need-loop-less Inv-loop μ-loop
-loop-less c = omega arith
 
 loop-again : tie.Need-loop-again Inv-loop μ-loop
 loop-again c =
@@ -132,9 +120,6 @@ loop-again c =
       fine .1,
     )
 
-same-length : tie.Need-same-length Inv-loop μ-loop
-same-length c = omega arith
-
 returns : tie.Need-returns Inv-loop μ-loop
 returns c =
     let l = c .before .loop in
@@ -151,12 +136,12 @@ write-columns-spec =
     sub-write-column
     part-write-column-start
     part-write-column-end
-    write-column-requires
-    width-requires
+    (λ c κs. tt)
+    (λ c κs. tt)
     mul-at
     add-at
-    add-c
-    loop-less
+    (λ c. omega arith)
+    (λ c. omega arith)
     loop-again
-    same-length
+    (λ c. omega arith)
     returns)

@@ -13,14 +13,8 @@ returns-2 c = let s = c .before .before in fits-old (s .args .room) (s .args .st
 returns-3 : tie.Need-returns-3
 returns-3 c = let s = c .before .before .before in fits-old (s .args .room) (s .args .start) (s .args .old) (s .args .used) (s .args .size) (omega (arith, c .if3 .taken, c .before .if2 .left))
 
-sub-result : tie.Need-sub-result
-sub-result c = search needs
-
-sub-result-2 : tie.Need-sub-result-2
-sub-result-2 c = search needs
-
 returns-4 : tie.Need-returns-4
 returns-4 c = let s = c .before .before .before in fits-is (s .args .room) (s .args .start) (s .args .old) (s .args .used) (s .args .size) (c .before .before .if1 .left) (c .before .if2 .left) (c .if3 .left)
 
 pub has-room-spec : {M : Type 1} → statement M
-has-room-spec = tie.close (tie.spec returns returns-2 returns-3 sub-result sub-result-2 returns-4)
+has-room-spec = tie.close (tie.spec returns returns-2 returns-3 (λ c. search needs) (λ c. search needs) returns-4)

@@ -12,24 +12,6 @@ abbrev μ-loop : tie.MeasureT-loop
 loop-holds : tie.Need-loop-holds Inv-loop μ-loop
 loop-holds c = down-start _ _ _ _
 
-sub-j : tie.Need-sub-j Inv-loop μ-loop
-sub-j c = omega arith
-
-add-text : tie.Need-add-text Inv-loop μ-loop
-add-text c = omega arith
-
-slice-read-text : tie.Need-slice-read-text Inv-loop μ-loop
-slice-read-text c = omega arith
-
-add-text-2 : tie.Need-add-text-2 Inv-loop μ-loop
-add-text-2 c = omega arith
-
-slice-write-text : tie.Need-slice-write-text Inv-loop μ-loop
-slice-write-text c = omega arith
-
-loop-less : tie.Need-loop-less Inv-loop μ-loop
-loop-less c = omega arith
-
 loop-again : tie.Need-loop-again Inv-loop μ-loop
 loop-again c =
     let l = c .before .before in
@@ -49,12 +31,12 @@ move-up-spec =
     Inv-loop
     μ-loop
     loop-holds
-    sub-j
-    add-text
-    slice-read-text
-    add-text-2
-    slice-write-text
-    loop-less
+    (λ c. omega arith)
+    (λ c. omega arith)
+    (λ c. omega arith)
+    (λ c. omega arith)
+    (λ c. omega arith)
+    (λ c. omega arith)
     loop-again
     same-length
     returns)

@@ -22,33 +22,6 @@ two k =
     (m .move-text .last .0) (k .before .before .copy-in .last .0) (m .move-text .ensures)
     (k .before .before .copy-in .ensures ∙ copied-paste (m .move-text .last .0) (s .args .start) (s .args .new .now) (omega (arith, s .pre, lent)))
 
-add-from : tie.Need-add-from
-add-from c = search needs
-
-sub-rest : tie.Need-sub-rest
-sub-rest c = search needs
-
-add-to : tie.Need-add-to
-add-to c = search needs
-
-move-text-requires : tie.Need-move-text-requires
-move-text-requires c κs = search needs
-
-copy-in-requires : tie.Need-copy-in-requires
-copy-in-requires c κs = search needs
-
-add-end : tie.Need-add-end
-add-end c = search needs
-
-sub-zero : tie.Need-sub-zero
-sub-zero c = search needs
-
-zero-requires : tie.Need-zero-requires
-zero-requires c κs = search needs
-
-same-length : tie.Need-same-length
-same-length c = search needs
-
 returns : tie.Need-returns
 returns c =
     let k = c .before .before .before .before .before in
@@ -56,9 +29,6 @@ returns c =
     splice-less (s .args .text .now) (s .args .start) (s .args .old) (s .args .used) (s .args .new .now) (s .pre .0) (s .pre .1) (s .pre .2)
     (k .before .before .copy-in .last .0) (c .before .before .zero .last .0) _ (omega arith) (c .before .before .before .before .if1 .taken)
     (two k) (c .before .before .zero .ensures)
-
-same-length-2 : tie.Need-same-length-2
-same-length-2 c = search needs
 
 returns-2 : tie.Need-returns-2
 returns-2 c =
@@ -71,15 +41,15 @@ pub put-spec : {M : Type 1} → statement M
 put-spec =
     tie.close
     (tie.spec
-    add-from
-    sub-rest
-    add-to
-    move-text-requires
-    copy-in-requires
-    add-end
-    sub-zero
-    zero-requires
-    same-length
+    (λ c. search needs)
+    (λ c. search needs)
+    (λ c. search needs)
+    (λ c κs. search needs)
+    (λ c κs. search needs)
+    (λ c. search needs)
+    (λ c. search needs)
+    (λ c κs. search needs)
+    (λ c. search needs)
     returns
-    same-length-2
+    (λ c. search needs)
     returns-2)

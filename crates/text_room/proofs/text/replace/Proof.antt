@@ -8,17 +8,11 @@ use borrow.Author.Needs.{needs}
 use Rattle.text_room.proofs.text.replace.Statement.{statement}
 use Rattle.text_room.proofs.text.replace.Tie as tie
 
-has-room-requires : tie.Need-has-room-requires
-has-room-requires c κs = search needs
-
 put-requires : tie.Need-put-requires
 put-requires c κs =
     let s = c .before .before .before .before .before in
     let f = fits-so (length (s .args .text .now)) (s .args .start) (s .args .old) (s .args .used) (length (s .args .new .now)) (sym (c .before .before .has-room .ensures) ∙ c .before .if1 .taken) in
     (f .inside, f .within, f .roomy)
-
-same-length : tie.Need-same-length
-same-length c = search needs
 
 returns : tie.Need-returns
 returns c =
@@ -32,4 +26,4 @@ returns-2 c =
     sym (ap (λ (b : Bool). if b then splice (s .args .text .now) (s .args .start) (s .args .old) (s .args .used) (s .args .new .now) else s .args .text .now) (sym (c .before .has-room .ensures) ∙ c .if1 .left))
 
 pub replace-spec : {M : Type 1} → statement M
-replace-spec = tie.close (tie.spec has-room-requires put-requires same-length returns returns-2)
+replace-spec = tie.close (tie.spec (λ c κs. search needs) put-requires (λ c. search needs) returns returns-2)

@@ -5,17 +5,11 @@ use mir.Facts.{toZ-ofZ}
 use Rattle.value.proofs.Cell.new.Statement.{statement}
 use Rattle.value.proofs.Cell.new.Tie as tie
 
-returns : tie.Need-returns
-returns c = rw (c .if1 .taken)
-
 returns-2 : tie.Need-returns-2
 returns-2 c = rw (c .if2 .taken, toZ-ofZ {w = w32} {z = c .before .before .args .number} (c .before .before .fits .number))
 
 returns-3 : tie.Need-returns-3
 returns-3 c = rw (c .if3 .taken, toZ-ofZ {w = w32} {z = c .before .before .before .args .number} (c .before .before .before .fits .number))
-
-returns-4 : tie.Need-returns-4
-returns-4 c = rw (c .if4 .taken)
 
 returns-5 : tie.Need-returns-5
 returns-5 c =
@@ -27,4 +21,4 @@ returns-5 c =
     )
 
 pub new-spec : {M : Type 1} → statement M
-new-spec = tie.close (tie.spec returns returns-2 returns-3 returns-4 returns-5)
+new-spec = tie.close (tie.spec (λ c. rw (c .if1 .taken)) returns-2 returns-3 (λ c. rw (c .if4 .taken)) returns-5)

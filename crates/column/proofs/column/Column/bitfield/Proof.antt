@@ -1,5 +1,5 @@
 -- `Column::bitfield` meets its contract: the marks are added to the type's bits. Assumes nothing.
-use Rattle.column.proofs.Cells.{sound-type, long-type}
+use Rattle.column.proofs.Types.{sound-type, long-type}
 use Rattle.column.proofs.Masks.{all-marks, type-clear}
 use Rattle.column.specs.Columns.{marks}
 use Rattle.column.specs.Bits.{typeBits}
@@ -23,32 +23,11 @@ sum c =
     all-marks (typeBits (s .coltype)) _ _ _ (s .«is_localizable») (s .«is_nullable») (s .«is_primary_key») (clear .0) (clear .1)
     (rw (c .before .before .before .type-bits .ensures) at (c .before .before .marked .ensures)) (c .before .marked2 .ensures) (c .marked3 .ensures)
 
-too-long-requires : tie.Need-too-long-requires
-too-long-requires c κs = search needs
-
 returns : tie.Need-returns
 returns c = rw (long-type 0 (c .before .before .args .self .coltype) (sym (c .before .too-long .ensures) ∙ c .if1 .taken))
 
 type-bits-requires : tie.Need-type-bits-requires
 type-bits-requires c κs = sound-type 0 (c .before .before .args .self .coltype) (sym (c .before .too-long .ensures) ∙ c .if1 .left) .1
-
-cast-marked : tie.Need-cast-marked
-cast-marked c = search needs
-
-marked-requires : tie.Need-marked-requires
-marked-requires c κs = search needs
-
-cast-marked-2 : tie.Need-cast-marked-2
-cast-marked-2 c = search needs
-
-marked-requires-2 : tie.Need-marked-requires-2
-marked-requires-2 c κs = search needs
-
-cast-marked-3 : tie.Need-cast-marked-3
-cast-marked-3 c = search needs
-
-marked-requires-3 : tie.Need-marked-requires-3
-marked-requires-3 c κs = search needs
 
 cast-t10 : tie.Need-cast-t10
 cast-t10 c = record { sfits = omega (arith, sum c .1) }
@@ -62,14 +41,14 @@ pub bitfield-spec : {M : Type 1} → statement M
 bitfield-spec =
     tie.close
     (tie.spec
-    too-long-requires
+    (λ c κs. search needs)
     returns
     type-bits-requires
-    cast-marked
-    marked-requires
-    cast-marked-2
-    marked-requires-2
-    cast-marked-3
-    marked-requires-3
+    (λ c. search needs)
+    (λ c κs. search needs)
+    (λ c. search needs)
+    (λ c κs. search needs)
+    (λ c. search needs)
+    (λ c κs. search needs)
     cast-t10
     returns-2)

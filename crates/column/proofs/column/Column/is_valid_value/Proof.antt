@@ -1,5 +1,5 @@
 -- `Column::is_valid_value` meets its contract. Assumes nothing.
-use Rattle.column.proofs.Cells.{sound-type, long-type}
+use Rattle.column.proofs.Types.{sound-type, long-type}
 use Rattle.common.specs.Answers.{gives}
 use borrow.Author.Tests.{lt-ltb, le-ltb}
 use mathlib.Core.Path.{sym, ap, _∙_}
@@ -10,14 +10,8 @@ use Rattle.column.proofs.column.Column.is_valid_value.Tie as tie
 returns : tie.Need-returns
 returns c = rw (lt-ltb _ _ (c .if1 .taken))
 
-too-long-requires : tie.Need-too-long-requires
-too-long-requires c κs = search needs
-
 returns-2 : tie.Need-returns-2
 returns-2 c = rw (le-ltb _ _ (c .before .before .if1 .left), long-type 0 (c .before .before .before .before .args .self .coltype) (sym (c .before .too-long .ensures) ∙ c .if2 .taken))
-
-allows-requires : tie.Need-allows-requires
-allows-requires c κs = search needs
 
 returns-3 : tie.Need-returns-3
 returns-3 c =
@@ -31,4 +25,4 @@ returns-4 c =
 
 pub is-valid-value-spec : {M : Type 1} → statement M
 is-valid-value-spec =
-    tie.close (tie.spec returns too-long-requires returns-2 allows-requires returns-3 returns-4)
+    tie.close (tie.spec returns (λ c κs. search needs) returns-2 (λ c κs. search needs) returns-3 returns-4)

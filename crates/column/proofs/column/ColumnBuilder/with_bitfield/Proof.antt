@@ -8,15 +8,6 @@ use borrow.Author.Needs.{needs}
 use Rattle.column.proofs.column.ColumnBuilder.with_bitfield.Statement.{statement}
 use Rattle.column.proofs.column.ColumnBuilder.with_bitfield.Tie as tie
 
-type-of-requires : tie.Need-type-of-requires
-type-of-requires c κs = search needs
-
-enum-known-read : tie.Need-enum-known-read
-enum-known-read c = search needs
-
-enum-told : tie.Need-enum-told
-enum-told c = search needs
-
 returns : tie.Need-returns
 returns c =
     let back = toZ-ofZ {w = w32} {z = c .before .before .before .args .type-bits} (c .before .before .before .fits .type-bits) in
@@ -30,4 +21,4 @@ returns-2 c =
 
 pub with-bitfield-spec : {M : Type 1} → statement M
 with-bitfield-spec =
-    tie.close (tie.spec type-of-requires enum-known-read enum-told returns returns-2)
+    tie.close (tie.spec (λ c κs. search needs) (λ c. search needs) (λ c. search needs) returns returns-2)

@@ -11,29 +11,8 @@ use borrow.Author.Needs.{needs}
 use Rattle.stringpool.proofs.pool.StringPool.decref.Statement.{statement}
 use Rattle.stringpool.proofs.pool.StringPool.decref.Tie as tie
 
-plan-drop-requires : tie.Need-plan-drop-requires
-plan-drop-requires c κs = search needs
-
-array-share-prefix-none : tie.Need-array-share-prefix-none
-array-share-prefix-none c = search needs
-
-slice-aggregate-carry-out : tie.Need-slice-aggregate-carry-out
-slice-aggregate-carry-out c = search needs
-
 carry-out-requires : tie.Need-carry-out-requires
 carry-out-requires c κs = c .before .before .before .before .plan-drop .ensures .ready
-
-drop-answer-requires : tie.Need-drop-answer-requires
-drop-answer-requires c κs = search needs
-
-same-length : tie.Need-same-length
-same-length c = search needs
-
-same-length-2 : tie.Need-same-length-2
-same-length-2 c = search needs
-
-same-length-3 : tie.Need-same-length-3
-same-length-3 c = search needs
 
 returns : tie.Need-returns
 returns c =
@@ -47,12 +26,12 @@ pub decref-spec : {M : Type 1} → statement M
 decref-spec =
     tie.close
     (tie.spec
-    plan-drop-requires
-    array-share-prefix-none
-    slice-aggregate-carry-out
+    (λ c κs. search needs)
+    (λ c. search needs)
+    (λ c. search needs)
     carry-out-requires
-    drop-answer-requires
-    same-length
-    same-length-2
-    same-length-3
+    (λ c κs. search needs)
+    (λ c. search needs)
+    (λ c. search needs)
+    (λ c. search needs)
     returns)

@@ -10,18 +10,6 @@ use borrow.Author.Needs.{needs}
 use Rattle.stringpool.proofs.pool.StringPool.get.Statement.{statement}
 use Rattle.stringpool.proofs.pool.StringPool.get.Tie as tie
 
-judge-requires : tie.Need-judge-requires
-judge-requires c κs = search needs
-
-enum-told : tie.Need-enum-told
-enum-told c = search needs
-
-slice-aggregate-result : tie.Need-slice-aggregate-result
-slice-aggregate-result c = search needs
-
-enum-told-2 : tie.Need-enum-told-2
-enum-told-2 c = search needs
-
 get-sound-requires : tie.Need-get-sound-requires
 get-sound-requires c κs =
     let s = c .before .before .before .before .before .before in
@@ -44,10 +32,10 @@ pub get-spec : {M : Type 1} → statement M
 get-spec =
     tie.close
     (tie.spec
-    judge-requires
-    enum-told
-    slice-aggregate-result
-    enum-told-2
+    (λ c κs. search needs)
+    (λ c. search needs)
+    (λ c. search needs)
+    (λ c. search needs)
     get-sound-requires
     returns
     returns-2)

@@ -15,15 +15,6 @@ use borrow.Author.Needs.{needs}
 use Rattle.stringpool.proofs.pool.StringPool.refcount.Statement.{statement}
 use Rattle.stringpool.proofs.pool.StringPool.refcount.Tie as tie
 
-judge-requires : tie.Need-judge-requires
-judge-requires c κs = search needs
-
-enum-known-j : tie.Need-enum-known-j
-enum-known-j c = search needs
-
-enum-told : tie.Need-enum-told
-enum-told c = search needs
-
 count-sound-requires : tie.Need-count-sound-requires
 count-sound-requires c κs =
     let s = c .before .before .before .before .before .before in
@@ -44,4 +35,4 @@ returns-2 c =
 pub refcount-spec : {M : Type 1} → statement M
 refcount-spec =
     tie.close
-    (tie.spec judge-requires enum-known-j enum-told count-sound-requires returns returns-2)
+    (tie.spec (λ c κs. search needs) (λ c. search needs) (λ c. search needs) count-sound-requires returns returns-2)

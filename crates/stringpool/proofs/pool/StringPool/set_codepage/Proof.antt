@@ -6,18 +6,6 @@ use borrow.Author.Needs.{needs}
 use Rattle.stringpool.proofs.pool.StringPool.set_codepage.Statement.{statement}
 use Rattle.stringpool.proofs.pool.StringPool.set_codepage.Tie as tie
 
-judge-requires : tie.Need-judge-requires
-judge-requires c κs = search needs
-
-enum-known-j : tie.Need-enum-known-j
-enum-known-j c = search needs
-
-enum-told : tie.Need-enum-told
-enum-told c = search needs
-
-with-page-requires : tie.Need-with-page-requires
-with-page-requires c κs = search needs
-
 returns : tie.Need-returns
 returns c =
     let s = c .before .before .before .before .before .before .before in
@@ -30,4 +18,4 @@ returns-2 c =
 
 pub set-codepage-spec : {M : Type 1} → statement M
 set-codepage-spec =
-    tie.close (tie.spec judge-requires enum-known-j enum-told with-page-requires returns returns-2)
+    tie.close (tie.spec (λ c κs. search needs) (λ c. search needs) (λ c. search needs) (λ c κs. search needs) returns returns-2)

@@ -12,15 +12,6 @@ use borrow.Author.Needs.{needs}
 use Rattle.stringpool.proofs.pool.StringPool.write_data.Statement.{statement}
 use Rattle.stringpool.proofs.pool.StringPool.write_data.Tie as tie
 
-judge-requires : tie.Need-judge-requires
-judge-requires c κs = search needs
-
-enum-known-j : tie.Need-enum-known-j
-enum-known-j c = search needs
-
-enum-known-j-2 : tie.Need-enum-known-j-2
-enum-known-j-2 c = search needs
-
 write-texts-requires : tie.Need-write-texts-requires
 write-texts-requires c κs =
     let s = c .before .before .before .before .before .before .before .before .before in
@@ -31,9 +22,6 @@ returns : tie.Need-returns
 returns c =
     let s = c .before .before .before .before .before .before .before .before in
     judge-refused (s .args .self) (rooms (s .args .lengths .now) (s .args .counts .now) (s .args .text .now)) (s .args .out .now) (writeAnswer (dataBytes (s .args .self) (rooms (s .args .lengths .now) (s .args .counts .now) (s .args .text .now))) (s .args .out .now)) _ (sym (c .before .before .before .judge .ensures) ∙ c .before .j .given .1)
-
-same-length : tie.Need-same-length
-same-length c = search needs
 
 returns-2 : tie.Need-returns-2
 returns-2 c =
@@ -47,10 +35,10 @@ pub write-data-spec : {M : Type 1} → statement M
 write-data-spec =
     tie.close
     (tie.spec
-    judge-requires
-    enum-known-j
-    enum-known-j-2
+    (λ c κs. search needs)
+    (λ c. search needs)
+    (λ c. search needs)
     write-texts-requires
     returns
-    same-length
+    (λ c. search needs)
     returns-2)

@@ -11,15 +11,6 @@ use borrow.Author.Needs.{needs}
 use Rattle.stringpool.proofs.pool.StringPool.write_pool.Statement.{statement}
 use Rattle.stringpool.proofs.pool.StringPool.write_pool.Tie as tie
 
-judge-requires : tie.Need-judge-requires
-judge-requires c κs = search needs
-
-enum-known-j : tie.Need-enum-known-j
-enum-known-j c = search needs
-
-enum-told : tie.Need-enum-told
-enum-told c = search needs
-
 write-sound-requires : tie.Need-write-sound-requires
 write-sound-requires c κs =
     let s = c .before .before .before .before .before .before .before .before in
@@ -30,9 +21,6 @@ returns : tie.Need-returns
 returns c =
     let s = c .before .before .before .before .before .before .before .before in
     judge-refused (s .args .self) (rooms (s .args .lengths .now) (s .args .counts .now) (s .args .text .now)) (s .args .out .now) (writeAnswer (poolBytes (s .args .self) (rooms (s .args .lengths .now) (s .args .counts .now) (s .args .text .now))) (s .args .out .now)) _ (sym (c .before .before .before .judge .ensures) ∙ c .before .j .given .1)
-
-same-length : tie.Need-same-length
-same-length c = search needs
 
 returns-2 : tie.Need-returns-2
 returns-2 c =
@@ -46,10 +34,10 @@ pub write-pool-spec : {M : Type 1} → statement M
 write-pool-spec =
     tie.close
     (tie.spec
-    judge-requires
-    enum-known-j
-    enum-told
+    (λ c κs. search needs)
+    (λ c. search needs)
+    (λ c. search needs)
     write-sound-requires
     returns
-    same-length
+    (λ c. search needs)
     returns-2)

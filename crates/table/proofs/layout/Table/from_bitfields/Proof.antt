@@ -39,41 +39,14 @@ made-is c =
     let z = getD (c .before .before .before .before .before .before .before .before .args .bits .now) (c .before .before .before .before .loop .c) (pos 0) in
     rw (toZ-ofZ {w = w32} {z = z} (record { sfits = c .before .with-bitfield-arg .given }), c .before .before .build2 .ensures) at (c .with-bitfield .ensures)
 
-build-requires : tie.Need-build-requires Inv-loop μ-loop
-build-requires c κs = tt
-
-int16-requires : tie.Need-int16-requires Inv-loop μ-loop
-int16-requires c κs = tt
-
-no-table-requires : tie.Need-no-table-requires Inv-loop μ-loop
-no-table-requires c κs = tt
-
 returns : tie.Need-returns Inv-loop μ-loop
 returns c = rw (c .no-table .ensures, lt-ltb 64 (length (c .before .before .before .before .args .bits .now)) (c .before .if1 .taken))
 
 loop-holds : tie.Need-loop-holds Inv-loop μ-loop
 loop-holds c = (omega arith, refl, rw (rw (c .before .before .build .ensures) at (c .before .int16 .ensures)))
 
-build-requires-2 : tie.Need-build-requires-2 Inv-loop μ-loop
-build-requires-2 c κs = tt
-
-mul-with-bitfield : tie.Need-mul-with-bitfield Inv-loop μ-loop
-mul-with-bitfield c = omega arith
-
 shared-slice-copy-out-with-bitfield : tie.Need-shared-slice-copy-out-with-bitfield Inv-loop μ-loop
 shared-slice-copy-out-with-bitfield c = c .before .loop-test .taken
-
-with-bitfield-requires : tie.Need-with-bitfield-requires Inv-loop μ-loop
-with-bitfield-requires c κs = tt
-
-enum-known-made : tie.Need-enum-known-made Inv-loop μ-loop
-enum-known-made c = search needs
-
-enum-told : tie.Need-enum-told Inv-loop μ-loop
-enum-told c = search needs
-
-no-table-requires-2 : tie.Need-no-table-requires-2 Inv-loop μ-loop
-no-table-requires-2 c κs = tt
 
 returns-2 : tie.Need-returns-2 Inv-loop μ-loop
 returns-2 c =
@@ -90,12 +63,6 @@ mul-columns c = omega (arith, c .before .before .before .before .before .before 
 
 array-set-from-columns : tie.Need-array-set-from-columns Inv-loop μ-loop
 array-set-from-columns c = omega (arith, c .before .before .before .before .before .before .before .before .if1 .left)
-
-add-c : tie.Need-add-c Inv-loop μ-loop
-add-c c = search needs
-
-loop-less : tie.Need-loop-less Inv-loop μ-loop
-loop-less c = search needs
 
 loop-again : tie.Need-loop-again Inv-loop μ-loop
 loop-again c =
@@ -121,22 +88,22 @@ from-bitfields-spec =
     (tie.spec
     Inv-loop
     μ-loop
-    build-requires
-    int16-requires
-    no-table-requires
+    (λ c κs. tt)
+    (λ c κs. tt)
+    (λ c κs. tt)
     returns
     loop-holds
-    build-requires-2
-    mul-with-bitfield
+    (λ c κs. tt)
+    (λ c. omega arith)
     shared-slice-copy-out-with-bitfield
-    with-bitfield-requires
-    enum-known-made
-    enum-told
-    no-table-requires-2
+    (λ c κs. tt)
+    (λ c. search needs)
+    (λ c. search needs)
+    (λ c κs. tt)
     returns-2
     mul-columns
     array-set-from-columns
-    add-c
-    loop-less
+    (λ c. search needs)
+    (λ c. search needs)
     loop-again
     returns-3)

@@ -10,22 +10,10 @@ use Rattle.table.proofs.layout.Table.new.Tie as tie
 abbrev table-of : tie.Start → Table
 table-of c = record { columns = c .args .columns; count = c .args .count; «long_string_refs» = c .args .long-string-refs }
 
-judge-requires : tie.Need-judge-requires
-judge-requires c κs = search needs
-
-enum-known-verdict : tie.Need-enum-known-verdict
-enum-known-verdict c = search needs
-
-no-table-requires : tie.Need-no-table-requires
-no-table-requires c κs = search needs
-
 returns : tie.Need-returns
 returns c =
     let e = rw (c .before .before .verdict .given .1) at (c .before .before .before .before .judge .ensures) in
     rw (c .no-table .ensures, sym (columns-refused {A = Unit {0} × Table} (table-of (c .before .before .before .before .before)) (gives (tt, table-of (c .before .before .before .before .before))) _ _ e))
-
-enum-told : tie.Need-enum-told
-enum-told c = search needs
 
 returns-2 : tie.Need-returns-2
 returns-2 c =
@@ -35,4 +23,4 @@ returns-2 c =
 pub new-spec : {M : Type 1} → statement M
 new-spec =
     tie.close
-    (tie.spec judge-requires enum-known-verdict no-table-requires returns enum-told returns-2)
+    (tie.spec (λ c κs. search needs) (λ c. search needs) (λ c κs. search needs) returns (λ c. search needs) returns-2)

@@ -15,25 +15,13 @@ rows-is c = rw (c .before .layout-of .ensures) at (c .rows-of .ensures)
 returns : tie.Need-returns
 returns c = rw (lt-ltb _ _ (c .if1 .taken))
 
-judge-requires : tie.Need-judge-requires
-judge-requires c κs = search needs
-
-enum-known-verdict : tie.Need-enum-known-verdict
-enum-known-verdict c = search needs
-
 returns-2 : tie.Need-returns-2
 returns-2 c =
     let e = rw (c .before .verdict .given .1) at (c .before .before .before .judge .ensures) in
     rw (le-ltb _ _ (c .before .before .before .before .if1 .left)) (columns-refused (c .before .before .before .before .before .before .args .self) (rowsFound 65536 (c .before .before .before .before .before .before .args .self) (c .before .before .before .before .before .before .args .stream .now)) _ _ e)
 
-enum-told : tie.Need-enum-told
-enum-told c = search needs
-
 layout-of-requires : tie.Need-layout-of-requires
 layout-of-requires c κs = judged-sound (c .before .before .before .before .before .args .self) (rw (c .enum-told .given .1) at (c .before .before .judge .ensures))
-
-rows-of-requires : tie.Need-rows-of-requires
-rows-of-requires c κs = search needs
 
 returns-3 : tie.Need-returns-3
 returns-3 c =
@@ -52,11 +40,11 @@ num-rows-spec =
     tie.close
     (tie.spec
     returns
-    judge-requires
-    enum-known-verdict
+    (λ c κs. search needs)
+    (λ c. search needs)
     returns-2
-    enum-told
+    (λ c. search needs)
     layout-of-requires
-    rows-of-requires
+    (λ c κs. search needs)
     returns-3
     returns-4)

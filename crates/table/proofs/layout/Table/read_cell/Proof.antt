@@ -7,29 +7,11 @@ use borrow.Author.Needs.{needs}
 use Rattle.table.proofs.layout.Table.read_cell.Statement.{statement}
 use Rattle.table.proofs.layout.Table.read_cell.Tie as tie
 
-num-rows-requires : tie.Need-num-rows-requires
-num-rows-requires c κs = search needs
-
-enum-known-counted : tie.Need-enum-known-counted
-enum-known-counted c = search needs
-
-enum-known-counted-2 : tie.Need-enum-known-counted-2
-enum-known-counted-2 c = search needs
-
-cell-fits-requires : tie.Need-cell-fits-requires
-cell-fits-requires c κs = search needs
-
-enum-known-fits : tie.Need-enum-known-fits
-enum-known-fits c = search needs
-
 returns : tie.Need-returns
 returns c =
     let e = rw (c .before .before .before .before .before .counted2 .given .1) at (c .before .before .before .before .before .before .before .num-rows .ensures) in
     let f = rw (c .before .fits2 .given .1) at (c .before .before .before .cell-fits .ensures) in
     rw (sym e, sym f)
-
-enum-told : tie.Need-enum-told
-enum-told c = search needs
 
 cell-in-requires : tie.Need-cell-in-requires
 cell-in-requires c κs =
@@ -53,13 +35,13 @@ pub read-cell-spec : {M : Type 1} → statement M
 read-cell-spec =
     tie.close
     (tie.spec
-    num-rows-requires
-    enum-known-counted
-    enum-known-counted-2
-    cell-fits-requires
-    enum-known-fits
+    (λ c κs. search needs)
+    (λ c. search needs)
+    (λ c. search needs)
+    (λ c κs. search needs)
+    (λ c. search needs)
     returns
-    enum-told
+    (λ c. search needs)
     cell-in-requires
     returns-2
     returns-3)

@@ -17,15 +17,6 @@ cells-few c =
     let f = at-found c in
     omega (arith, mul-le-mul-right {m = c .before .counted2 .given .0 .0} {n = 65536} (c .before .before .before .before .before .before .args .self .count) (f .few), f .sound .0)
 
-num-rows-requires : tie.Need-num-rows-requires
-num-rows-requires c κs = search needs
-
-enum-known-counted : tie.Need-enum-known-counted
-enum-known-counted c = search needs
-
-enum-known-counted-2 : tie.Need-enum-known-counted-2
-enum-known-counted-2 c = search needs
-
 mul-cells : tie.Need-mul-cells
 mul-cells c = omega (arith, cells-few (c .before))
 
@@ -49,12 +40,6 @@ returns-3 c =
     let e = rw (c .before .counted .given .1) at (c .before .before .before .num-rows .ensures) in
     rw (sym e)
 
-same-length : tie.Need-same-length
-same-length c = search needs
-
-same-length-2 : tie.Need-same-length-2
-same-length-2 c = search needs
-
 returns-4 : tie.Need-returns-4
 returns-4 c =
     let e = rw (c .before .before .before .before .before .before .before .before .before .before .counted2 .given .1) at (c .before .before .before .before .before .before .before .before .before .before .before .before .num-rows .ensures) in
@@ -65,14 +50,14 @@ pub read-rows-spec : {M : Type 1} → statement M
 read-rows-spec =
     tie.close
     (tie.spec
-    num-rows-requires
-    enum-known-counted
-    enum-known-counted-2
+    (λ c κs. search needs)
+    (λ c. search needs)
+    (λ c. search needs)
     mul-cells
     returns
     returns-2
     read-bands-requires
     returns-3
-    same-length
-    same-length-2
+    (λ c. search needs)
+    (λ c. search needs)
     returns-4)

@@ -44,29 +44,14 @@ fit : (c : tie.After-enum-told2)
     ≡ bulkFits 65536 (c .before .before .before .before .before .before .before .before .before .args .rows) (length (typesOf (c .before .before .before .before .before .before .before .before .before .args .self))) (length (c .before .before .before .before .before .before .before .before .before .args .kinds .now)) (length (c .before .before .before .before .before .before .before .before .before .args .numbers .now))
 fit c = rw (count-is (c .before .before .before .before)) (rw (c .enum-told2 .given .1) at (c .before .before .bulk-fits .ensures))
 
-judge-requires : tie.Need-judge-requires
-judge-requires c κs = search needs
-
-enum-known-verdict : tie.Need-enum-known-verdict
-enum-known-verdict c = search needs
-
 returns : tie.Need-returns
 returns c =
     let e = rw (c .before .verdict .given .1) at (c .before .before .before .judge .ensures) in
     let s = c .before .before .before .before .before .before in
     rw (sym (columns-refused {A = ℕ × List ℕ} (s .args .self) (answer s) _ _ e))
 
-enum-told : tie.Need-enum-told
-enum-told c = search needs
-
 cast-bulk-fits : tie.Need-cast-bulk-fits
 cast-bulk-fits c = omega (arith, sound (c .before) .0)
-
-bulk-fits-requires : tie.Need-bulk-fits-requires
-bulk-fits-requires c κs = search needs
-
-enum-known-fits : tie.Need-enum-known-fits
-enum-known-fits c = search needs
 
 returns-2 : tie.Need-returns-2
 returns-2 c =
@@ -76,14 +61,8 @@ returns-2 c =
     let e = rw (c .before .fits2 .given .1) at (c .before .before .before .bulk-fits .ensures) in
     rw (passed told, not-fit (typesOf (a .self)) (a .self .«long_string_refs») (a .rows) (cellsOf s) (a .out .now) _ _ (rw (← count-is told) at e))
 
-enum-told-2 : tie.Need-enum-told-2
-enum-told-2 c = search needs
-
 judge-columns-requires : tie.Need-judge-columns-requires
 judge-columns-requires c κs = (sound (c .before .before .before .before), bulk-is c .few, bulk-is c .kinds-are, bulk-is c .numbers-are)
-
-enum-known-judged : tie.Need-enum-known-judged
-enum-known-judged c = search needs
 
 returns-3 : tie.Need-returns-3
 returns-3 c =
@@ -91,9 +70,6 @@ returns-3 c =
     let a = s .args in
     let e = rw (c .before .judged .given .1) at (c .before .before .before .judge-columns .ensures) in
     rw (passed (c .before .before .before .before .before .before .before .before), bad-cell (typesOf (a .self)) (a .self .«long_string_refs») (a .rows) (cellsOf s) (a .out .now) (fit (c .before .before .before .before)) _ _ e)
-
-enum-told-3 : tie.Need-enum-told-3
-enum-told-3 c = search needs
 
 layout-of-requires : tie.Need-layout-of-requires
 layout-of-requires c κs = sound (c .before .before .before .before .before .before .before)
@@ -118,9 +94,6 @@ write-columns-requires c κs =
     let e = rw (c .before .before .before .before .enum-told3 .given .1) at (c .before .before .before .before .before .before .judge-columns .ensures) in
     (sound (c .before .before .before .before .before .before .before .before .before .before .before), b .few, b .kinds-are, b .numbers-are, rw (c .before .before .before .layout-of .ensures) at (c .before .if1 .left), sym e)
 
-same-length : tie.Need-same-length
-same-length c = search needs
-
 returns-5 : tie.Need-returns-5
 returns-5 c =
     let told = c .before .before .before .before .before .before .before .before .before .before .before .before .before .before in
@@ -139,22 +112,22 @@ pub write-rows-spec : {M : Type 1} → statement M
 write-rows-spec =
     tie.close
     (tie.spec
-    judge-requires
-    enum-known-verdict
+    (λ c κs. search needs)
+    (λ c. search needs)
     returns
-    enum-told
+    (λ c. search needs)
     cast-bulk-fits
-    bulk-fits-requires
-    enum-known-fits
+    (λ c κs. search needs)
+    (λ c. search needs)
     returns-2
-    enum-told-2
+    (λ c. search needs)
     judge-columns-requires
-    enum-known-judged
+    (λ c. search needs)
     returns-3
-    enum-told-3
+    (λ c. search needs)
     layout-of-requires
     mul-bytes
     returns-4
     write-columns-requires
-    same-length
+    (λ c. search needs)
     returns-5)

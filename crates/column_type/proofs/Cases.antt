@@ -1,0 +1,56 @@
+-- The `else` of a `let .. else`: the enum is none of the cases named.
+use mathlib.Core.Path.{_≡_, refl}
+use mathlib.Core.List.{[], _∷_}
+use mathlib.Core.Logic.{⊎-elim}
+use Prim.Native.Nat.{ℕ}
+use native.Mathlib.Omega.{arith}
+use types.Run.{OneOf}
+use denote.Enum.Declared.{tagOf}
+use Rattle.common.specs.Answers.{Place, refused}
+use Rattle.value.proofs.Cell.{the-type}
+use Rattle.value.specs.declared.Cell.{Cell}
+use Rattle.value.specs.declared.Cell.the-variants.{Null, Int, Str, Binary, Unknown}
+use Rattle.column_type.specs.Forms.{plainInteger, plainReference}
+use Rattle.column_type.specs.inner.Forms.{integerStored, referenceStored, binaryStored}
+
+none4 : {n a b c d : ℕ} → (n ≡ a → ⊥) → (n ≡ b → ⊥) → (n ≡ c → ⊥) → (n ≡ d → ⊥) → OneOf (a ∷ b ∷ c ∷ d ∷ []) n → ⊥
+none4 x y z w o = ⊎-elim x (⊎-elim y (⊎-elim z w)) o
+
+-- a cell that is neither a Null nor of the column's kind
+pub not-integer : (half : ℕ) (at : Place) (v : Cell) → OneOf (1 ∷ 2 ∷ 3 ∷ 4 ∷ []) (tagOf the-type v) → OneOf (0 ∷ 2 ∷ 3 ∷ 4 ∷ []) (tagOf the-type v)
+    → refused 16 at ≡ integerStored half at v
+not-integer half at Null k o = absurd (none4 (λ e. omega arith) (λ e. omega arith) (λ e. omega arith) (λ e. omega arith) k)
+not-integer half at (Int n) k o = absurd (none4 (λ e. omega arith) (λ e. omega arith) (λ e. omega arith) (λ e. omega arith) o)
+not-integer half at (Str n) k o = refl
+not-integer half at Binary k o = refl
+not-integer half at Unknown k o = refl
+
+pub not-reference : (long : _) (at : Place) (v : Cell) → OneOf (1 ∷ 2 ∷ 3 ∷ 4 ∷ []) (tagOf the-type v) → OneOf (0 ∷ 1 ∷ 3 ∷ 4 ∷ []) (tagOf the-type v)
+    → refused 16 at ≡ referenceStored long at v
+not-reference long at Null k o = absurd (none4 (λ e. omega arith) (λ e. omega arith) (λ e. omega arith) (λ e. omega arith) k)
+not-reference long at (Int n) k o = refl
+not-reference long at (Str n) k o = absurd (none4 (λ e. omega arith) (λ e. omega arith) (λ e. omega arith) (λ e. omega arith) o)
+not-reference long at Binary k o = refl
+not-reference long at Unknown k o = refl
+
+pub not-binary : (at : Place) (v : Cell) → OneOf (0 ∷ 1 ∷ 2 ∷ 4 ∷ []) (tagOf the-type v) → refused 16 at ≡ binaryStored at v
+not-binary at Null o = refl
+not-binary at (Int n) o = refl
+not-binary at (Str n) o = refl
+not-binary at Binary o = absurd (none4 (λ e. omega arith) (λ e. omega arith) (λ e. omega arith) (λ e. omega arith) o)
+not-binary at Unknown o = refl
+
+-- and what such a cell's number is, where nothing is judged
+pub no-integer : (half : ℕ) (v : Cell) → OneOf (0 ∷ 2 ∷ 3 ∷ 4 ∷ []) (tagOf the-type v) → 0 ≡ plainInteger half v
+no-integer half Null o = refl
+no-integer half (Int n) o = absurd (none4 (λ e. omega arith) (λ e. omega arith) (λ e. omega arith) (λ e. omega arith) o)
+no-integer half (Str n) o = refl
+no-integer half Binary o = refl
+no-integer half Unknown o = refl
+
+pub no-reference : (v : Cell) → OneOf (0 ∷ 1 ∷ 3 ∷ 4 ∷ []) (tagOf the-type v) → 0 ≡ plainReference v
+no-reference Null o = refl
+no-reference (Int n) o = refl
+no-reference (Str n) o = absurd (none4 (λ e. omega arith) (λ e. omega arith) (λ e. omega arith) (λ e. omega arith) o)
+no-reference Binary o = refl
+no-reference Unknown o = refl

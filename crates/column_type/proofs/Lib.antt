@@ -1,0 +1,5 @@
+pub mod Cells
+pub mod Cases
+pub mod Forms
+pub mod Halves
+pub mod Numbers

@@ -1,0 +1,144 @@
+-- The number of a cell that can be stored, and of one that was handed over. Assumes nothing.
+use mathlib.Core.Path.{_≡_, refl, sym, _∙_, ap}
+use mathlib.Core.Bool.{Bool, true, false, not, _||_, _&&_}
+use Prim.Native.Nat.{ℕ, suc, zero, _-_, _<_, _≤_}
+use native.Mathlib.Omega.{arith}
+use borrow.Author.Tests.{ltb-false, eqb-true}
+use lib.Dec.{eqb, ltb}
+use lib.IntN.{ℤ, pos, negsuc, negℤ, natAbs, _+ℤ_}
+use lib.Signed.{ltZ, mag}
+use Rattle.common.specs.Choice.{if_then_else_}
+use Rattle.common.specs.Answers.{Place, gives, refused}
+use Rattle.value.specs.declared.Cell.{Cell}
+use Rattle.value.specs.declared.Cell.the-variants as cell
+use Rattle.value.specs.Handed.{cellOf, handedKind, handedNumber}
+use Rattle.column_type.specs.declared.form.ColumnType.{ColumnType}
+use Rattle.column_type.specs.declared.form.ColumnType.the-variants.{Int16, Int32, Str, Binary}
+use Rattle.column_type.specs.declared.form.CellForm.{CellForm}
+use Rattle.column_type.specs.declared.form.CellForm.the-variants as form
+use Rattle.column_type.specs.Cells.{stored, integer, referenceNumber}
+use Rattle.column_type.specs.Signed.{biased}
+use Rattle.column_type.specs.Forms.{typeIn, longIn, plainInteger, plainReference, plainNumber, orZero}
+use Rattle.column_type.specs.inner.Forms.{integerStored, referenceStored, binaryStored}
+use Rattle.column_type.proofs.Halves.{add-biased}
+use Rattle.column_type.proofs.Forms.{integer-by-kind, reference-by-kind, binary-by-kind}
+
+-- ---- what was handed over, by kind and number
+
+module _ (long : Bool) (at : Place) where
+  null-any : (t : ColumnType) (m n : ℤ) → stored t long at 0 m ≡ stored t long at 0 n
+  null-any Int16 m n = refl
+  null-any Int32 m n = refl
+  null-any (Str max) m n = refl
+  null-any Binary m n = refl
+
+  binary-any : (t : ColumnType) (m n : ℤ) → stored t long at 3 m ≡ stored t long at 3 n
+  binary-any Int16 m n = refl
+  binary-any Int32 m n = refl
+  binary-any (Str max) m n = refl
+  binary-any Binary m n = refl
+
+  pub unknown-kind : (t : ColumnType) (k : ℕ) (n : ℤ) → eqb k 0 ≡ false → eqb k 1 ≡ false → eqb k 2 ≡ false → eqb k 3 ≡ false → stored t long at k n ≡ refused 16 at
+  unknown-kind Int16 k n a b c d = rw (a, b)
+  unknown-kind Int32 k n a b c d = rw (a, b)
+  unknown-kind (Str max) k n a b c d = rw (a, c)
+  unknown-kind Binary k n a b c d = rw d
+
+  pub handed-stored : (t : ColumnType) (k : ℕ) (n : ℤ) → stored t long at (handedKind (cellOf k n)) (handedNumber (cellOf k n)) ≡ stored t long at k n
+  handed-stored t k n = go (eqb k 0) (eqb k 1) (eqb k 2) (eqb k 3) refl refl refl refl
+    where
+      pick : Bool → Bool → Bool → Bool → Cell
+      pick a b c d = if a then cell.Null else if b then cell.Int n else if c then cell.Str n else if d then cell.Binary else cell.Unknown
+
+      go : (a b c d : Bool) → eqb k 0 ≡ a → eqb k 1 ≡ b → eqb k 2 ≡ c → eqb k 3 ≡ d
+          → stored t long at (handedKind (pick a b c d)) (handedNumber (pick a b c d)) ≡ stored t long at k n
+      go true b c d p q r s = rw (eqb-true k 0 p) (null-any t (pos 0) n)
+      go false true c d p q r s = rw (eqb-true k 1 q)
+      go false false true d p q r s = rw (eqb-true k 2 r)
+      go false false false true p q r s = rw (eqb-true k 3 s) (binary-any t (pos 0) n)
+      go false false false false p q r s = unknown-kind t 4 (pos 0) refl refl refl refl ∙ sym (unknown-kind t k n p q r s)
+
+-- ---- a number within the range
+
+range-mag : (half : ℕ) (z : ℤ) → (ltZ z (negℤ (pos half)) || ltZ (pos (half - 1)) z) ≡ false → 0 < half → mag z < half
+range-mag (suc h) (pos n) e p = omega (arith, ltb-false (suc h - 1) n e)
+range-mag (suc h) (negsuc n) e p = go (ltb h n) refl e
+  where
+    go : (b : Bool) → ltb h n ≡ b → (b || false) ≡ false → n < suc h
+    go true q r = absurd (let y : _≡_ {A = ℕ} 0 1 = cc in omega arith)
+    go false q r = omega (arith, ltb-false h n q)
+range-mag zero z e p = absurd (omega arith)
+
+pub integer-number : (half : ℕ) (at : Place) (z : ℤ) (m : ℕ) → 0 < half → integer half at z ≡ gives m → (mag z < half) × (biased half z ≡ m)
+integer-number half at z m p e = go (ltZ z (negℤ (pos half)) || ltZ (pos (half - 1)) z) refl e
+  where
+    go : (b : Bool) → (ltZ z (negℤ (pos half)) || ltZ (pos (half - 1)) z) ≡ b → (if b then refused 17 at else gives (natAbs (z +ℤ pos half))) ≡ gives m → (mag z < half) × (biased half z ≡ m)
+    go true q r = absurd (let y : _≡_ {A = ℕ} 0 1 = cc in omega arith)
+    go false q r =
+        let g = range-mag half z q p in
+        let is : natAbs (z +ℤ pos half) ≡ m = cc in
+        (g, sym (ap natAbs (add-biased half z g)) ∙ is)
+
+-- what a stored reference says of its number
+pub record Referred (long : Bool) (z : ℤ) (m : ℕ) : Type 0 where
+  pub is : z ≡ pos m
+  pub least : 0 < m
+  pub most : m ≤ 16777215
+  pub short : long ≡ false → m ≤ 65535
+
+pub reference-number : (long : Bool) (at : Place) (z : ℤ) (m : ℕ) → referenceNumber long at z ≡ gives m → Referred long z m
+reference-number long at z m e = go z (ltZ z (pos 1)) (ltZ (pos 16777215) z) (not long && ltZ (pos 65535) z) refl refl refl e
+  where
+    short-le : (l : Bool) (n : ℕ) → (not l && ltb 65535 n) ≡ false → l ≡ false → n ≤ 65535
+    short-le true n q h = absurd (let y : _≡_ {A = ℕ} 0 1 = cc in omega arith)
+    short-le false n q h = ltb-false 65535 n q
+
+    go : (y : ℤ) (a b c : Bool) → ltZ y (pos 1) ≡ a → ltZ (pos 16777215) y ≡ b → (not long && ltZ (pos 65535) y) ≡ c → referenceNumber long at y ≡ gives m → Referred long y m
+    go y true b c p q r f = absurd (let g = rw p at f in let w : _≡_ {A = ℕ} 0 1 = cc in omega arith)
+    go y false true c p q r f = absurd (let g = rw (p, q) at f in let w : _≡_ {A = ℕ} 0 1 = cc in omega arith)
+    go y false false true p q r f = absurd (let g = rw (p, q, r) at f in let w : _≡_ {A = ℕ} 0 1 = cc in omega arith)
+    go (pos n) false false false p q r f =
+        let g : gives n ≡ gives m = rw (p, q, r) at f in
+        let same : n ≡ m = cc in
+        record {
+          is = ap pos same;
+          least = rw same at (ltb-false n 1 p);
+          most = rw same at (ltb-false 16777215 n q);
+          short = λ h. rw same at (short-le long n r h);
+        }
+    go (negsuc n) false false false p q r f = absurd (let w : _≡_ {A = ℕ} 0 1 = cc in omega arith)
+
+int-plain : (half : ℕ) (at : Place) (v : Cell) (m : ℕ) → 0 < half → integerStored half at v ≡ gives m → plainInteger half v ≡ m
+int-plain half at cell.Null m p e = cc
+int-plain half at (cell.Int z) m p e = integer-number half at z m p e .1
+int-plain half at (cell.Str z) m p e = absurd (let y : _≡_ {A = ℕ} 0 1 = cc in omega arith)
+int-plain half at cell.Binary m p e = absurd (let y : _≡_ {A = ℕ} 0 1 = cc in omega arith)
+int-plain half at cell.Unknown m p e = absurd (let y : _≡_ {A = ℕ} 0 1 = cc in omega arith)
+
+ref-plain : (long : Bool) (at : Place) (v : Cell) (m : ℕ) → referenceStored long at v ≡ gives m → plainReference v ≡ m
+ref-plain long at cell.Null m e = cc
+ref-plain long at (cell.Int z) m e = absurd (let y : _≡_ {A = ℕ} 0 1 = cc in omega arith)
+ref-plain long at (cell.Str z) m e = ap orZero (reference-number long at z m e .is)
+ref-plain long at cell.Binary m e = absurd (let y : _≡_ {A = ℕ} 0 1 = cc in omega arith)
+ref-plain long at cell.Unknown m e = absurd (let y : _≡_ {A = ℕ} 0 1 = cc in omega arith)
+
+bin-plain : (at : Place) (v : Cell) (m : ℕ) → binaryStored at v ≡ gives m → 1 ≡ m
+bin-plain at cell.Null m e = absurd (let y : _≡_ {A = ℕ} 0 1 = cc in omega arith)
+bin-plain at (cell.Int z) m e = absurd (let y : _≡_ {A = ℕ} 0 1 = cc in omega arith)
+bin-plain at (cell.Str z) m e = absurd (let y : _≡_ {A = ℕ} 0 1 = cc in omega arith)
+bin-plain at cell.Binary m e = cc
+bin-plain at cell.Unknown m e = absurd (let y : _≡_ {A = ℕ} 0 1 = cc in omega arith)
+
+-- a cell that can be stored stores its plain number
+pub fine-number : (f : CellForm) (at : Place) (k : ℕ) (n : ℤ) (m : ℕ) → stored (typeIn f) (longIn f) at k n ≡ gives m → plainNumber f (cellOf k n) ≡ m
+fine-number f at k n m e = go f (handed-stored (longIn f) at (typeIn f) k n ∙ e)
+  where
+    v : Cell
+    v = cellOf k n
+
+    go : (g : CellForm) → stored (typeIn g) (longIn g) at (handedKind v) (handedNumber v) ≡ gives m → plainNumber g v ≡ m
+    go form.Int16 q = int-plain 32768 at v m (omega arith) (integer-by-kind 32768 at v ∙ q)
+    go form.Int32 q = int-plain 2147483648 at v m (omega arith) (integer-by-kind 2147483648 at v ∙ q)
+    go form.ShortRef q = ref-plain false at v m (reference-by-kind false at v ∙ q)
+    go form.LongRef q = ref-plain true at v m (reference-by-kind true at v ∙ q)
+    go form.Binary q = bin-plain at v m (binary-by-kind at v ∙ q)

@@ -1,0 +1,159 @@
+-- What a pool's calls answer, seen from a value. Assumes nothing.
+use mathlib.Core.Path.{_≡_, refl, sym, _∙_, ap}
+use mathlib.Core.Bool.{Bool, true, false, not, true≢false}
+use mathlib.Core.List.{List, []}
+use Prim.Native.Nat.{ℕ, _≤_, _<_}
+use native.Mathlib.Omega.{arith}
+use lib.IntN.{ℤ, pos}
+use lib.Dec.{ltb}
+use lib.ListN.{length}
+use borrow.Author.Tests.{lt-ltb, le-ltb}
+use Rattle.common.specs.Choice.{if_then_else_, _=?_}
+use Rattle.common.specs.Sizes.{maxBytes}
+use Rattle.common.specs.Answers.{Place, nowhere, Answer, gives, refused, onGiven, outcome, refusalOf}
+use Rattle.common.specs.Refusals.{numberOf, whereOf, refusedBy}
+use Rattle.common.specs.declared.refusal.Refusal.{Refusal}
+use Rattle.stringpool.specs.declared.pool.StringPool.{StringPool}
+use Rattle.stringpool.specs.declared.takes.Taken.{Taken}
+use Rattle.stringpool.specs.declared.takes.Taken.the-variants as taken
+use Rattle.stringpool.specs.declared.shows.Showable.{Showable}
+use Rattle.stringpool.specs.declared.shows.Showable.the-variants as showable
+use Rattle.stringpool.specs.Pool.{Rooms, sound, onSound}
+use Rattle.stringpool.specs.Take.{takenAs, takeAnswer, firstFreeOrEqual}
+use Rattle.stringpool.specs.Drop.{droppedAs}
+use Rattle.stringpool.specs.Show.{showAnswer, showableAs, orEmpty}
+use Rattle.value.specs.Kinds.{kindOf, numberOf as numberOfValue}
+use Rattle.pool_values.specs.Pooled.{valueKind, valueNumber, createdAs, createOutcome, shownAs, shownAnswer, textAnswer}
+use Rattle.pool_values.specs.inner.Pooled.{createdOf, plainOf, keptBy, shownOf}
+use Rattle.value.specs.declared.ValueRef.{ValueRef}
+use Rattle.value.specs.declared.ValueRef.the-variants as ref
+use Rattle.pool_values.specs.declared.Value.{Value}
+use Rattle.pool_values.specs.declared.Value.the-variants as plain
+use Rattle.pool_values.specs.declared.Created.the-variants as createds
+use Rattle.pool_values.specs.declared.Shown.the-variants as shown
+
+-- ---- 22 and 24, told by a show of the least number
+
+same-refusal : {A : Type 0} (n m : ℕ) (at p : Place) → _≡_ {A = Answer (Unit {0})} (refused n at) (refused m p) → _≡_ {A = Answer A} (refused m p) (refused n at)
+same-refusal n m at p e =
+    let s : n ≡ m = cc in
+    let t : at ≡ p = cc in
+    rw (s, t)
+
+stops : {A B : Type 0} (s t : Bool) (a : A) (b : Answer B) (n : ℕ) (at : Place)
+    → refused n at ≡ refusalOf (if s then refused 22 nowhere else if not t then refused 24 nowhere else gives a) → (if s then refused 22 nowhere else if not t then refused 24 nowhere else b) ≡ refused n at
+stops true t a b n at e = same-refusal n 22 at nowhere e
+stops false false a b n at e = same-refusal n 24 at nowhere e
+stops false true a b n at e = absurd (let z : _≡_ {A = ℕ} 0 1 = cc in omega arith)
+
+passes : {A B : Type 0} (s t : Bool) (a : A) (b : Answer B)
+    → gives tt ≡ refusalOf (if s then refused 22 nowhere else if not t then refused 24 nowhere else gives a) → (if s then refused 22 nowhere else if not t then refused 24 nowhere else b) ≡ b
+passes true t a b e = absurd (let z : _≡_ {A = ℕ} 0 1 = cc in omega arith)
+passes false false a b e = absurd (let z : _≡_ {A = ℕ} 0 1 = cc in omega arith)
+passes false true a b e = refl
+
+module _ {A B : Type 0} (p : StringPool) (w : Rooms) (a : A) (b : Answer B) where
+  pub unsound : (n : ℕ) (at : Place) → refused n at ≡ refusalOf (onSound p w (gives a)) → onSound p w b ≡ refused n at
+  unsound n at e = stops (ltb 268435455 (length (w .text))) (sound p w) a b n at e
+
+  pub is-sound : gives tt ≡ refusalOf (onSound p w (gives a)) → onSound p w b ≡ b
+  is-sound e = passes (ltb 268435455 (length (w .text))) (sound p w) a b e
+
+-- ---- a take, with the kind of a text
+
+abbrev typed : Answer (ℤ × StringPool) → Answer ((ℕ × ℤ) × StringPool)
+typed a = onGiven a (λ (y : ℤ × StringPool). gives ((2, y .0), y .1))
+
+created-is : (t : Taken) → createdAs (createdOf t) ≡ typed (takenAs t)
+created-is (taken.Ref r p) = refl
+created-is (taken.Refused x) = refl
+
+outcome-is : (w : Rooms) (a : Answer ((ℤ × StringPool) × Rooms)) → outcome w (onGiven a (λ (x : (ℤ × StringPool) × Rooms). gives (((2, x .0 .0), x .0 .1), x .1))) ≡ (typed (outcome w a .0), outcome w a .1)
+outcome-is w (gives x) = refl
+outcome-is w (refused n at) = refl
+
+pub created : (t : Taken) (w left : Rooms) (a : Answer ((ℤ × StringPool) × Rooms)) → (takenAs t, left) ≡ outcome w a
+    → (createdAs (createdOf t), left) ≡ outcome w (onGiven a (λ (x : (ℤ × StringPool) × Rooms). gives (((2, x .0 .0), x .0 .1), x .1)))
+created t w left a e =
+    rw (created-is t) (ap (λ (q : Answer (ℤ × StringPool) × Rooms). (typed (q .0), q .1)) e) ∙ sym (outcome-is w a)
+
+-- ---- a value that is no text leaves the pool as it is
+
+pub kept : {A : Type 0} (p : StringPool) (w : Rooms) (a : A) (s : Showable) → showableAs s ≡ refusalOf (onSound p w (gives a))
+    → (droppedAs (keptBy p s), w) ≡ outcome w (onSound p w (gives (p, w)))
+kept p w a showable.Yes e = sym (ap (outcome w) (is-sound p w a (gives (p, w)) e))
+kept p w a (showable.Refused x) e = sym (ap (outcome w) (unsound p w a (gives (p, w)) (numberOf x) (whereOf x) e))
+
+-- ---- what is shown
+
+refused-on : {A B : Type 0} (x : Answer A) (more : A → Answer B) (n : ℕ) (at : Place) → refused n at ≡ refusalOf x → refused n at ≡ onGiven x more
+refused-on (gives a) more n at e = absurd (let z : _≡_ {A = ℕ} 0 1 = cc in omega arith)
+refused-on (refused m p) more n at e = sym (same-refusal n m at p e)
+
+given-on : {A B : Type 0} (x : Answer A) (y : Answer B) → gives tt ≡ refusalOf x → y ≡ onGiven x (λ a. y)
+given-on (gives a) y e = refl
+given-on (refused m p) y e = absurd (let z : _≡_ {A = ℕ} 0 1 = cc in omega arith)
+
+module _ (v : ValueRef) (p : StringPool) (w : Rooms) where
+  abbrev asked : ℤ
+  asked = if kindOf v =? 2 then numberOfValue v else pos 1
+
+  pub shown-refused : (q : ℤ) (x : Refusal) → q ≡ asked → refusedBy x ≡ refusalOf (showAnswer p w q) → refusedBy x ≡ shownAnswer (kindOf v) (numberOfValue v) p w
+  shown-refused q x f e = go (kindOf v =? 2) refl (rw f at e)
+    where
+      go : (b : Bool) → (kindOf v =? 2) ≡ b → refusedBy x ≡ refusalOf (showAnswer p w (if b then numberOfValue v else pos 1))
+          → _≡_ {A = Answer (ℕ × ℤ)} (refusedBy x) (onGiven (if b then showAnswer p w (numberOfValue v) else onSound p w (gives [])) (λ t. gives (kindOf v, if b then pos 0 else numberOfValue v)))
+      go true g e = refused-on (showAnswer p w (numberOfValue v)) _ _ _ e
+      go false g e = sym (ap (λ (y : Answer (List ℕ)). onGiven {B = ℕ × ℤ} y (λ t. gives (kindOf v, numberOfValue v))) (unsound p w _ (gives []) (numberOf x) (whereOf x) e))
+
+  shown-is : (v : ValueRef) → _≡_ {A = Answer (ℕ × ℤ)} (shownAs (shown.Value (shownOf v))) (gives (kindOf v, if kindOf v =? 2 then pos 0 else numberOfValue v))
+  shown-is ref.Null = refl
+  shown-is (ref.Int n) = refl
+  shown-is (ref.Str r) = refl
+  shown-is ref.Binary = refl
+
+  pub shown-given : (q : ℤ) → q ≡ asked → gives tt ≡ refusalOf (showAnswer p w q) → shownAs (shown.Value (shownOf v)) ≡ shownAnswer (kindOf v) (numberOfValue v) p w
+  shown-given q f e = shown-is v ∙ go (kindOf v =? 2) (rw f at e)
+    where
+      go : (b : Bool) → gives tt ≡ refusalOf (showAnswer p w (if b then numberOfValue v else pos 1))
+          → _≡_ {A = Answer (ℕ × ℤ)} (gives (kindOf v, if b then pos 0 else numberOfValue v))
+          (onGiven (if b then showAnswer p w (numberOfValue v) else onSound p w (gives [])) (λ t. gives (kindOf v, if b then pos 0 else numberOfValue v)))
+      go true e = given-on (showAnswer p w (numberOfValue v)) (gives (kindOf v, pos 0)) e
+      go false e = sym (ap (λ (y : Answer (List ℕ)). onGiven {B = ℕ × ℤ} y (λ t. gives (kindOf v, numberOfValue v))) (is-sound p w _ (gives []) e))
+
+  pub text-shown : (a : List ℕ) → (kindOf v =? 2) ≡ true → a ≡ orEmpty (showAnswer p w (numberOfValue v)) → a ≡ orEmpty (textAnswer (kindOf v) (numberOfValue v) p w)
+  text-shown a k e = rw k e
+
+  pub text-none : (kindOf v =? 2) ≡ false → [] ≡ orEmpty (textAnswer (kindOf v) (numberOfValue v) p w)
+  text-none k = rw k (go (ltb 268435455 (length (w .text))) (sound p w))
+    where
+      go : (s t : Bool) → [] ≡ orEmpty (if s then refused 22 nowhere else if not t then refused 24 nowhere else gives [])
+      go true t = refl
+      go false true = refl
+      go false false = refl
+
+-- ---- what is created of a value that is no text
+
+module _ (v : Value) (new : List ℕ) (p : StringPool) (w : Rooms) (k : (valueKind v =? 2) ≡ false) where
+  pub over-size : maxBytes < length new → (refused 22 nowhere, w) ≡ createOutcome (valueKind v) (valueNumber v) new p w
+  over-size h = rw (k, lt-ltb maxBytes (length new) h)
+
+  module _ (h : length new ≤ maxBytes) where
+    pub create-refused : {A : Type 0} (a : A) (x : Refusal) → refusedBy x ≡ refusalOf (onSound p w (gives a)) → (refusedBy x, w) ≡ createOutcome (valueKind v) (valueNumber v) new p w
+    create-refused a x e = rw (k, le-ltb maxBytes (length new) h) (sym (ap (outcome w) (unsound p w a _ (numberOf x) (whereOf x) e)))
+
+    plain-is : (v : Value) → (valueKind v =? 2) ≡ false → _≡_ {A = ℕ × ℤ} (kindOf (plainOf v), numberOfValue (plainOf v)) (valueKind v, valueNumber v)
+    plain-is plain.Null e = refl
+    plain-is (plain.Int n) e = refl
+    plain-is plain.Str e = absurd (true≢false e)
+    plain-is plain.Binary e = refl
+
+    pub create-plain : {A : Type 0} (a : A) → gives tt ≡ refusalOf (onSound p w (gives a))
+        → (createdAs (createds.Value (plainOf v) p), w) ≡ createOutcome (valueKind v) (valueNumber v) new p w
+    create-plain a e =
+        rw (k, le-ltb maxBytes (length new) h)
+        (ap (λ (c : ℕ × ℤ). (gives (c, p), w)) (plain-is v k) ∙ sym (ap (outcome w) (is-sound p w a (gives (((valueKind v, valueNumber v), p), w)) e)))
+
+pub create-text : (v : Value) (new : List ℕ) (p : StringPool) (w left : Rooms) (t : Taken) → (valueKind v =? 2) ≡ true
+    → (takenAs t, left) ≡ outcome w (takeAnswer firstFreeOrEqual p w new) → (createdAs (createdOf t), left) ≡ createOutcome (valueKind v) (valueNumber v) new p w
+create-text v new p w left t k e = rw k (created t w left (takeAnswer firstFreeOrEqual p w new) e)

@@ -1,0 +1,2 @@
+pub mod Pooled
+pub mod inner

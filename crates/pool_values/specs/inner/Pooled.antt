@@ -1,0 +1,34 @@
+-- The steps of creating, removing and showing.
+use Rattle.stringpool.specs.declared.pool.StringPool.{StringPool}
+use Rattle.stringpool.specs.declared.takes.Taken.{Taken}
+use Rattle.stringpool.specs.declared.takes.Taken.the-variants as taken
+use Rattle.stringpool.specs.declared.drops.Dropped.{Dropped}
+use Rattle.stringpool.specs.declared.drops.Dropped.the-variants as dropped
+use Rattle.stringpool.specs.declared.shows.Showable.{Showable}
+use Rattle.stringpool.specs.declared.shows.Showable.the-variants as showable
+use Rattle.value.specs.declared.ValueRef.{ValueRef}
+use Rattle.value.specs.declared.ValueRef.the-variants as ref
+use Rattle.pool_values.specs.declared.Value.{Value}
+use Rattle.pool_values.specs.declared.Value.the-variants as plain
+use Rattle.pool_values.specs.declared.Created.{Created}
+use Rattle.pool_values.specs.declared.Created.the-variants as created
+
+abbrev pub createdOf : Taken → Created
+createdOf (taken.Ref r p) = created.Value (ref.Str r) p
+createdOf (taken.Refused x) = created.Refused x
+
+abbrev pub plainOf : Value → ValueRef
+plainOf plain.Null = ref.Null
+plainOf (plain.Int n) = ref.Int n
+plainOf plain.Str = ref.Null
+plainOf plain.Binary = ref.Binary
+
+abbrev pub keptBy : StringPool → Showable → Dropped
+keptBy p showable.Yes = dropped.Done p
+keptBy p (showable.Refused x) = dropped.Refused x
+
+abbrev pub shownOf : ValueRef → Value
+shownOf ref.Null = plain.Null
+shownOf (ref.Int n) = plain.Int n
+shownOf (ref.Str r) = plain.Str
+shownOf ref.Binary = plain.Binary

@@ -3,7 +3,7 @@ use mathlib.Core.Path.{_≡_, refl}
 use mathlib.Core.Bool.{Bool, true, false, _||_}
 use Prim.Native.Nat.{ℕ, _<_, _≤_}
 use native.Mathlib.Omega.{arith}
-use borrow.Author.Tests.{lt-ltb, le-ltb, ltb-true, ltb-false}
+use borrow.Author.Tests.{lt-ltb, le-ltb, ltb-false}
 use lib.Dec.{T, lit≤}
 use lib.IntN.{ℤ, pos, negsuc, natAbs}
 use lib.Signed.{ltZ, mag, nonNeg}
@@ -15,7 +15,7 @@ use Rattle.string_ref.specs.Refs.{reference}
 use Rattle.column_type.specs.declared.form.ColumnType.{ColumnType}
 use Rattle.column_type.specs.declared.form.ColumnType.the-variants.{Int16, Int32, Str, Binary}
 use Rattle.column_type.specs.Cells.{width, stored, unstored, referenceNumber}
-use Rattle.column_type.specs.Forms.{formFor, typeIn, longIn, orZero}
+use Rattle.column_type.specs.Forms.{formFor, typeIn, longIn}
 
 -- ---- a column's cells are those of its form
 
@@ -74,10 +74,6 @@ good z w e = go (ltZ z (pos 1)) (ltZ (pos 16777215) z) refl refl e
     go false true p q r = absurd (let y : _≡_ {A = ℕ} 0 1 = cc in omega arith)
     go false false p q r = record { same = cc; low = p; high = q }
 
-pub good-is : (z : ℤ) → ltZ z (pos 1) ≡ false → ltZ (pos 16777215) z ≡ false → (z ≡ pos (natAbs z)) × (natAbs z ≤ 16777215)
-good-is (pos n) l h = (refl, ltb-false 16777215 n h)
-good-is (negsuc n) l h = absurd (let y : _≡_ {A = ℕ} 0 1 = cc in omega arith)
-
 module _ (long : Bool) (at : Place) (z : ℤ) where
   pub reference-refused : (n : ℕ) (p : Place) → refused n p ≡ reference nowhere z → refused 8 at ≡ referenceNumber long at z
   reference-refused n p e = go (ltZ z (pos 1) || ltZ (pos 16777215) z) refl e
@@ -105,12 +101,8 @@ module _ (long : Bool) (at : Place) (z : ℤ) where
       go (negsuc n) l′ h′ m′ b = absurd (let q : _≡_ {A = ℕ} 0 1 = cc in omega arith)
 
 -- the code's test n < 0
-pub below-zero : (z : ℤ) → ltZ z (pos 0) ≡ true → 0 ≡ orZero z
-below-zero (pos n) e = absurd (omega (arith, ltb-true n 0 e))
-below-zero (negsuc n) e = refl
-
-pub from-zero : (z : ℤ) → ltZ z (pos 0) ≡ false → (T (nonNeg z)) × (natAbs z ≡ orZero z) × (natAbs z ≡ mag z)
-from-zero (pos n) e = (tt, refl, refl)
+pub from-zero : (z : ℤ) → ltZ z (pos 0) ≡ false → (T (nonNeg z)) × (natAbs z ≡ mag z)
+from-zero (pos n) e = (tt, refl)
 from-zero (negsuc n) e = absurd (let q : _≡_ {A = ℕ} 0 1 = cc in omega arith)
 
 pub good-bits : (z : ℤ) → ltZ z (pos 1) ≡ false → ltZ (pos 16777215) z ≡ false → T (nonNeg z) × Fits w32 (natAbs z)

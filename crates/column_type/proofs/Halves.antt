@@ -15,7 +15,7 @@ use mir.Val.{SFits, toZ, ofZ}
 use mir.Facts.{toZ-ofZ, toZ-pos, sfits-widen}
 use Rattle.common.specs.Answers.{Place, gives, refused}
 use Rattle.column_type.specs.Cells.{integer}
-use Rattle.column_type.specs.Signed.{biased, unbiased}
+use Rattle.column_type.specs.Signed.{biased, unbiased, wrapped}
 
 by-order : (a b : ℕ) (t : Bool) → ltb a b ≡ t → (a < b) ⊎ (b ≤ a)
 by-order a b true e = inl (ltb-true a b e)
@@ -107,6 +107,9 @@ module _ (half : ℕ) (at : Place) (z : ℤ) where
 pub bias-is : {r : ℕ} (z : ℤ) → mag z < 2147483648 → r ≡ biased 2147483648 (toZ w32 (ofZ w32 z)) → r ≡ biased 2147483648 z
 bias-is z m e = e ∙ ap (λ (y : ℤ). biased 2147483648 y) (toZ-ofZ {w = w32} {z = z} (record { sfits = m }))
 
+pub wrapped-by : {r : ℕ} (half : ℕ) (z : ℤ) → mag z < 2147483648 → r ≡ wrapped half (toZ w32 (ofZ w32 z)) → r ≡ wrapped half z
+wrapped-by half z m e = e ∙ ap (wrapped half) (toZ-ofZ {w = w32} {z = z} (record { sfits = m }))
+
 pub too-low : (half : ℕ) (z : ℤ) → biased 2147483648 z < 2147483648 - half → half ≤ mag z
 too-low half (pos n) h = omega arith
 too-low half (negsuc n) h = omega arith
@@ -119,14 +122,6 @@ pub in-range : (half : ℕ) (z : ℤ) → mag z < 2147483648 → half ≤ 214748
     → (mag z < half) × (biased 2147483648 z - (2147483648 - half) ≡ biased half z)
 in-range half (pos n) m s l h = omega arith
 in-range half (negsuc n) m s l h = omega arith
-
-pub biased-low : (half : ℕ) (z : ℤ) → biased 2147483648 z < 2147483648 - half → 0 ≡ biased half z
-biased-low half (pos n) h = omega arith
-biased-low half (negsuc n) h = omega arith
-
-pub biased-is : (half : ℕ) (z : ℤ) → mag z < 2147483648 → half ≤ 2147483648 → biased 2147483648 z - (2147483648 - half) ≡ biased half z
-biased-is half (pos n) m s = omega arith
-biased-is half (negsuc n) m s = omega arith
 
 -- the bias, taken off again
 pub unbiased-biased : (h : ℕ) (z : ℤ) → mag z < h → unbiased h (biased h z) ≡ z

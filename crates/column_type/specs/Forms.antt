@@ -1,14 +1,13 @@
 -- How the cells of a column are stored: by its type and the width of references, without maximum and marks.
 use Prim.Native.Nat.{ℕ}
 use mathlib.Core.Bool.{Bool, true, false}
-use lib.IntN.{ℤ, pos, negsuc}
 use Rattle.common.specs.Choice.{if_then_else_, _<?_}
 use Rattle.common.specs.Sizes.{maxString}
 use Rattle.common.specs.Answers.{Answer, gives, refused, column, onGiven}
 use Rattle.common.specs.Refusals.{refusedBy}
 use Rattle.value.specs.declared.Cell.{Cell}
 use Rattle.value.specs.declared.Cell.the-variants.{Null, Int, Str, Binary, Unknown}
-use Rattle.column_type.specs.Signed.{biased}
+use Rattle.column_type.specs.Signed.{wrapped}
 use Rattle.column_type.specs.declared.form.ColumnType.{ColumnType}
 use Rattle.column_type.specs.declared.form.ColumnType.the-variants as type
 use Rattle.column_type.specs.declared.form.CellForm.{CellForm}
@@ -62,19 +61,15 @@ storedAs (stored.Refused x) = refusedBy x
 -- the number that is held for a cell that can be stored: nothing is judged; for any other cell it is still this number
 abbrev pub plainInteger : ℕ → Cell → ℕ
 plainInteger half Null = 0
-plainInteger half (Int n) = biased half n
+plainInteger half (Int n) = wrapped half n
 plainInteger half (Str n) = 0
 plainInteger half Binary = 0
 plainInteger half Unknown = 0
 
-abbrev pub orZero : ℤ → ℕ
-orZero (pos n) = n
-orZero (negsuc n) = 0
-
 abbrev pub plainReference : Cell → ℕ
 plainReference Null = 0
 plainReference (Int n) = 0
-plainReference (Str n) = orZero n
+plainReference (Str n) = wrapped 0 n
 plainReference Binary = 0
 plainReference Unknown = 0
 

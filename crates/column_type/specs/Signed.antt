@@ -1,6 +1,6 @@
 -- Document 01, "Cells": "Int16 holds n + 32,768 in two bytes, Int32 n + 2,147,483,648 in four": a signed number by way of the
 -- unsigned, and back, where h is half the width's numbers.
-use Prim.Native.Nat.{ℕ, suc, _+_, _-_}
+use Prim.Native.Nat.{ℕ, suc, _+_, _-_, _%_}
 use lib.IntN.{ℤ, pos, negsuc, subℕ}
 
 -- n + h, for n from -h on; below it 0
@@ -11,3 +11,7 @@ biased h (negsuc n) = h - suc n
 -- u - h
 abbrev pub unbiased : ℕ → ℕ → ℤ
 unbiased h u = subℕ u h
+
+-- n + h in 32 bits
+abbrev pub wrapped : ℕ → ℤ → ℕ
+wrapped h n = (biased 2147483648 n + (2147483648 + h)) % 4294967296

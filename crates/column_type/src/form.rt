@@ -177,12 +177,7 @@ fn integer_number(cell: Cell, half: u64) -> u32
     let Cell::Int(number) = cell else {
         return NULL;
     };
-    let below = SMALLEST - half;
-    let biased = crate::signed::bias(number);
-    if biased < below {
-        return 0;
-    }
-    (biased - below) as u32
+    crate::signed::wrapped(number, half)
 }
 
 fn reference_number(cell: Cell) -> u32
@@ -191,10 +186,7 @@ fn reference_number(cell: Cell) -> u32
     let Cell::Str(number) = cell else {
         return NULL;
     };
-    if number < 0 {
-        return 0;
-    }
-    number as u32
+    crate::signed::wrapped(number, 0)
 }
 
 // The value of a number that the cells of a form hold.

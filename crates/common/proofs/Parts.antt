@@ -13,9 +13,6 @@ use Rattle.common.specs.Lists.{_over_, overAt}
 -- ---- a result over a room
 
 module _ {A : Type 0} where
-  pub length-over : (x room : List A) → length x ≤ length room → length (x over room) ≡ length room
-  length-over x room h = simp (length-append, length-drop) (omega arith)
-
   pub length-over-at : (at : ℕ) (x room : List A) → at + length x ≤ length room → length (overAt at x room) ≡ length room
   length-over-at at x room h =
       let l : length (take at room) ≡ at = length-take-le at room (omega arith) in

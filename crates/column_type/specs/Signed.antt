@@ -12,6 +12,6 @@ biased h (negsuc n) = h - suc n
 abbrev pub unbiased : ℕ → ℕ → ℤ
 unbiased h u = subℕ u h
 
--- n + h in 32 bits
+-- n + h in 32 bits, by way of n + 2,147,483,648, which is never below 0; of a number that was judged it is n + h itself
 abbrev pub wrapped : ℕ → ℤ → ℕ
 wrapped h n = (biased 2147483648 n + (2147483648 + h)) % 4294967296

@@ -1,64 +1,88 @@
-# What the desk's scripts share: where things stand, and how Rust is compiled and run for each side.
+# What the desk's scripts share: where things stand, what is installed, and how Rust is compiled and run for each side.
 # The crate's side is built for this machine. The port's archive is for x86-64 alone: elsewhere its programs are cross-compiled with
 # Debian's rustc-web and run under the toolchain's emulator.
-desk=$(cd "$(dirname "$0")" && pwd)
+# Sourced first of all by each script, so that --help answers before anything is done.
+unset CDPATH
+script=$(readlink -f -- "$0")
+desk=$(dirname "$script")
 home=$(dirname "$desk")
 made=$desk/out
 crate=${STRANDROOST_CRATE:-$home/../shared/docs/src/src/internal}
 registry=${STRANDROOST_REGISTRY:-/usr/share/cargo/registry}
 modules="category codepage column language macros streamname stringpool table value"
-
-mkdir -p "$made"
+# Debian's own: another python3 that stands earlier on the path does not have Debian's packages.
+python=/usr/bin/python3
 
 say() { echo "desk: $*" >&2; }
 fail() { say "$*"; exit 2; }
 native() { [ "$(uname -m)" = x86_64 ]; }
 
-# things PART..: what each part needs, as THING=PACKAGE: a program or a file, and Debian's package that has it.
+# usage: the head of the script
+usage() { sed -n '2,$ { /^#/!q; s/^# \{0,1\}//; p; }' "$script"; }
+
+for word in "$@"; do
+    case $word in
+    -h | --help) usage; exit 0 ;;
+    --) break ;;
+    esac
+done
+
+# takes_none ARG..: for a script that takes no arguments
+takes_none() { [ $# -eq 0 ] || fail "$(basename "$script") takes no arguments, and was given '$1' (--help says what it does)"; }
+
+mkdir -p "$made" 2> /dev/null && [ -w "$made" ] || fail "$made cannot be written: the desk builds there"
+
+# things PART..: what each part needs, a line each, as THING=PACKAGE: a program, a file or a source in the registry, and Debian's
+# package that has it.
 #   rust       a Rust compiler and what links its programs
-#   c          a C compiler for the port's side
+#   c, c++     a compiler for the port's side
 #   crate      the three packages that the crate leans on
-#   container  the tool that takes a package's container apart
+#   container  the library that takes a package's container apart
 #   samples    the tools that make the sample packages
 things() {
     for part in "$@"; do
         case $part in
-        rust) echo rustc=rustc-web cc=gcc /usr/include/stdio.h=libc6-dev ;;
+        rust) echo rustc=rustc-web && echo cc=gcc && echo /usr/include/stdio.h=libc6-dev ;;
         c)
-            if native; then echo cc=gcc /usr/include/stdio.h=libc6-dev; else
-                echo x86_64-linux-gnu-gcc=gcc-x86-64-linux-gnu /usr/x86_64-linux-gnu/include/stdio.h=libc6-dev-amd64-cross
+            if native; then echo cc=gcc && echo /usr/include/stdio.h=libc6-dev; else
+                echo x86_64-linux-gnu-gcc=gcc-x86-64-linux-gnu
+                echo /usr/x86_64-linux-gnu/include/stdio.h=libc6-dev-amd64-cross
             fi
             ;;
-        crate) for name in byteorder-1 encoding_rs-0.8 uuid-1; do echo "$registry/$name.*=librust-$(echo "${name%-*}" | tr _ -)-dev"; done ;;
-        container) echo gsf=libgsf-bin ;;
-        samples) echo wixl=wixl msibuild=msitools ;;
+        c++) if native; then echo c++=g++; else echo x86_64-linux-gnu-g++=g++-x86-64-linux-gnu; fi ;;
+        crate) for name in byteorder-1 encoding_rs-0.8 uuid-1; do echo "registry:$name=librust-$(echo "${name%-*}" | tr _ -)-dev"; done ;;
+        container) echo $python=python3 && echo /usr/lib/python3/dist-packages/olefile=python3-olefile ;;
+        samples) echo wixl=wixl && echo msibuild=msitools ;;
         *) fail "no part $part" ;;
         esac
     done
 }
 
-# there THING: a program on the path, or a file that the pattern names
+# there THING: a program on the path, a file, or a source in the registry
 there() {
     case $1 in
-    */*) set -- $1 && [ -e "$1" ] ;;
+    registry:*) set -- "$registry/${1#registry:}".* && [ -e "$1" ] ;;
+    */*) [ -e "$1" ] ;;
     *) command -v "$1" > /dev/null ;;
     esac
 }
 
 # absent PART..: the packages of things that are not there
 absent() {
-    for pair in $(things "$@"); do there "${pair%=*}" || echo "${pair##*=}"; done | sort -u | tr '\n' ' '
+    things "$@" | while IFS= read -r pair; do there "${pair%=*}" || echo "${pair##*=}"; done | sort -u | tr '\n' ' '
 }
 
-# have PART..: installs by name what the parts miss. Says what cannot be had, once, and is then false.
+# have PART..: installs by name what the parts miss, which takes root. Says what cannot be had, once, and is then false.
 asked=
 have() {
     wanted=
     for package in $(absent "$@"); do
         case " $asked " in *" $package "*) ;; *) wanted="$wanted $package" ;; esac
     done
-    if [ -n "$wanted" ]; then
-        asked="$asked$wanted"
+    asked="$asked$wanted"
+    if [ -n "$wanted" ] && [ "$(id -u)" != 0 ]; then
+        say "not installed:$wanted. Installing takes root: apt-get update && apt-get install$wanted"
+    elif [ -n "$wanted" ]; then
         say "installing$wanted"
         apt-get -qq update > "$made/apt.log" 2>&1 || say "apt-get update failed: $(tail -n 1 "$made/apt.log")"
         for package in $wanted; do
@@ -70,10 +94,14 @@ have() {
 }
 
 # need PART..: have them, or end here
-need() { have "$@" || fail "needed of Debian: $(absent "$@")"; }
+need() { have "$@" || fail "nothing was run without $(absent "$@")"; }
+
+# build PART..: what is not there, or older than what it is made from
+build() { "$desk/build" --stale "$@" >&2 || fail "nothing was run: building $* failed"; }
 
 # The toolchain's loader, C library and emulator, found from rt itself.
 toolchain() {
+    command -v rt > /dev/null || fail "the Rattle toolchain (rt) is not on the path: it has the emulator that runs x86-64 programs here"
     kit=$(dirname "$(dirname "$(readlink -f "$(command -v rt)")")")
     echo "${RATTLE_TOOLCHAIN:-$kit/on/$(uname -m)/toolchain}"
 }
@@ -81,7 +109,7 @@ toolchain() {
 # run_x86 PROGRAM ARG..: in place of this shell, or under the emulator
 run_x86() {
     if native; then exec "$@"; fi
-    t=$(toolchain)
+    t=$(toolchain) || exit 2
     exec "$t/bin/qemu-x86_64" "$t/lib/ld-linux-x86-64.so.2" --library-path "$t/lib" "$@"
 }
 
@@ -91,46 +119,66 @@ optimized="-C opt-level=3 -C debug-assertions=off -C overflow-checks=off -C code
 rustc_here() { rustc $optimized "$@"; }
 
 # rustc_x86 ARG..: for x86-64
-rustc_x86() {
-    if native; then rustc_here "$@"; return; fi
-    root=$made/x86
-    LD_LIBRARY_PATH=$root/usr/lib/$(uname -m)-linux-gnu "$root/usr/bin/rustc" $optimized --target x86_64-unknown-linux-gnu \
-        --sysroot "$root/usr" -C linker=x86_64-linux-gnu-gcc -C link-arg="$made/startup.o" "$@"
+rustc_x86() { if native; then rustc_here "$@"; else rustc_cross $optimized "$@"; fi; }
+
+# rustc_cross ARG..: Debian's compiler, as unpack_x86 put it beside the builds
+rustc_cross() {
+    LD_LIBRARY_PATH=$made/x86/usr/lib/$(uname -m)-linux-gnu "$made/x86/usr/bin/rustc" --target x86_64-unknown-linux-gnu \
+        --sysroot "$made/x86/usr" -C linker=x86_64-linux-gnu-gcc -C link-arg="$made/startup.o" "$@"
 }
 
-# Debian's Rust compiler for this machine with its library for x86-64, unpacked beside the builds; nothing of it is installed.
+# unpack_x86: on a machine that is not x86-64, Debian's Rust compiler for this machine and its library for x86-64, of one and the
+# same version by lists fetched now, unpacked beside the builds; nothing of it is installed. They are kept only once a program that
+# they made has run.
 unpack_x86() {
-    if native || [ -d "$made/x86/usr/lib/rustlib/x86_64-unknown-linux-gnu" ]; then return; fi
-    say "unpacking Debian's rustc-web with its x86-64 library (once)"
+    if native || [ -e "$made/x86/works" ]; then return; fi
+    rm -rf "$made/x86"
     work=$(mktemp -d)
-    apt-cache show libstd-rust-web-dev > /dev/null 2>&1 || apt-get -qq update
-    std=$(apt-cache depends libstd-rust-web-dev | sed -n 's/.*Depends: \(libstd-rust-web-[0-9.]*\)$/\1/p' | head -n 1)
-    llvm=$(apt-cache depends "$std" | sed -n 's/.*Depends: \(libllvm[0-9]*\)$/\1/p' | head -n 1)
-    mkdir -p "$work/lists/partial" "$work/cache/archives/partial" "$work/state"
+    (fetch_x86 && try_x86) > "$work/log" 2>&1 || {
+        why=$(grep -v '^ *$' "$work/log" | tail -n 1)
+        rm -rf "$made/x86" "$work"
+        fail "no Rust compiler for x86-64: Debian's rustc-web was fetched anew, does not work, and was removed (${why:-it said nothing})"
+    }
+    mv "$work/version" "$made/x86/works"
+    say "a Rust compiler for x86-64 (Debian's rustc-web $(cat "$made/x86/works")) is unpacked in desk/out"
+    rm -rf "$work"
+}
+
+# fetch_x86: with lists of its own for both machines, so that root is not needed and what apt-get knows here stays as it is
+fetch_x86() {
+    mkdir -p "$work/lists/partial" "$work/cache/archives/partial" "$work/state" "$made/x86"
     : > "$work/state/status"
     cat > "$work/apt.conf" <<CONF
-APT::Architecture "amd64";
-APT::Architectures { "amd64"; };
-APT::Sandbox::User "root";
+APT::Architecture "$(dpkg --print-architecture)";
+APT::Architectures { "$(dpkg --print-architecture)"; "amd64"; };
+APT::Sandbox::User "";
 Dir::State "$work/state";
 Dir::State::lists "$work/lists";
 Dir::State::status "$work/state/status";
 Dir::Cache "$work/cache";
 CONF
-    (cd "$work" && apt-get -qq -o APT::Sandbox::User=root download rustc-web "$std" "$llvm" &&
-        APT_CONFIG=$work/apt.conf apt-get -qq update &&
-        APT_CONFIG=$work/apt.conf apt-get -qq download libstd-rust-web-dev) || fail "Debian's rustc-web cannot be had"
-    mkdir -p "$made/x86"
-    for package in "$work"/*.deb; do dpkg -x "$package" "$made/x86"; done
-    rm -rf "$work"
+    export APT_CONFIG="$work/apt.conf"
+    apt-get -qq update || { echo "apt-get update failed" && return 1; }
+    versions() { apt-cache madison "$1" | awk '{ print $3 }'; }
+    versions libstd-rust-web-dev:amd64 > "$work/theirs"
+    version=$(versions rustc-web | grep -Fxf "$work/theirs" | head -n 1)
+    [ -n "$version" ] || { echo "no version of rustc-web is there for both machines" && return 1; }
+    std=$(apt-cache show "libstd-rust-web-dev=$version" | sed -n 's/^Depends: .*\(libstd-rust-web-[0-9.]*\) .*/\1/p' | head -n 1)
+    llvm=$(apt-cache show "$std=$version" | sed -n 's/^Depends: .*\(libllvm[0-9.]*\).*/\1/p' | head -n 1)
+    (cd "$work" && apt-get -qq download "rustc-web=$version" "$std=$version" $llvm "libstd-rust-web-dev:amd64=$version") || return 1
+    for package in "$work"/*.deb; do dpkg -x "$package" "$made/x86" || return 1; done
+    echo "$version" > "$work/version"
 }
 
-# The emulator breaks where the C library reads the memory map for a thread's stack, as Rust does on its way to `main`; Rust goes
-# on without it where the call is refused.
-startup_x86() {
-    if native; then return; fi
+# try_x86: whether compiler and library make a program, and it runs. The emulator breaks where the C library reads the memory map
+# for a thread's stack, as Rust does on its way to `main`; Rust goes on without it where the call is refused.
+try_x86() {
+    unset APT_CONFIG
     echo 'int pthread_getattr_np(void *thread, void *attributes) { return 38; }' |
-        x86_64-linux-gnu-gcc -O2 -x c -c - -o "$made/startup.o"
+        x86_64-linux-gnu-gcc -O2 -x c -c - -o "$made/startup.o" || return 1
+    echo 'fn main() { print!("it runs") }' > "$work/empty.rs"
+    rustc_cross "$work/empty.rs" -o "$work/empty" || return 1
+    [ "$( (run_x86 "$work/empty") )" = "it runs" ]
 }
 
 # rust_libraries COMPILER DIR: the three packages that the crate leans on

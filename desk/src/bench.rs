@@ -245,8 +245,8 @@ impl Pools {
     }
 }
 
-fn bench_pools() {
-    for entries in [1_000, 10_000, 60_000] {
+fn bench_pools(sizes: &[usize]) {
+    for &entries in sizes {
         for mixed in [false, true] {
             let mut pools = Pools::new(entries, mixed);
             let lengths = if mixed { "mixed" } else { "equal" };
@@ -291,10 +291,12 @@ fn bench_table(rows: usize) {
     assert!(out == stream, "the port wrote another stream");
 }
 
+/// With `--quick` the largest sizes are left out.
 fn main() {
+    let sizes = if std::env::args().any(|word| word == "--quick") { 2 } else { 3 };
     bench_names();
-    bench_pools();
-    for rows in [1_000, 10_000, 65_536] {
-        bench_table(rows);
+    bench_pools(&[1_000, 10_000, 60_000][..sizes]);
+    for rows in &[1_000, 10_000, 65_536][..sizes] {
+        bench_table(*rows);
     }
 }

@@ -234,12 +234,12 @@ fn shorter_words(word: &str) -> Vec<String> {
         .to_vec()
 }
 
-fn main() -> std::io::Result<()> {
+fn main() {
     let words: Vec<String> = std::env::args().skip(1).collect();
     if let [option, of] = &words[..] {
         if option == "--short-list" {
             Cases { random: random::Random::new(1), scale: 1 }.short_list(of == "tables", &mut |line| println!("{line}"));
-            return Ok(());
+            return;
         }
     }
     let number = |at: usize| words.get(at).and_then(|word| word.parse::<u64>().ok());
@@ -249,12 +249,14 @@ fn main() -> std::io::Result<()> {
     };
     let mut sides = words[2..].split(|word| word == "--").map(<[String]>::to_vec);
     let sides = [sides.next().unwrap_or_default(), sides.next().unwrap_or_default()];
-    let mut run = Run::new(sides)?;
+    let mut run = Run::new(sides).unwrap_or_else(|error| {
+        eprintln!("desk/compare: a side could not be started: {error}");
+        std::process::exit(2);
+    });
     let mut cases = Cases { random: random::Random::new(seed), scale: scale as usize };
     cases.all(&mut |case| run.add(case));
     run.flush();
     let times = (20 * scale) as usize;
     lent::cases(&mut cases.random, times, &mut |case| run.lent(&case));
     run.summary();
-    Ok(())
 }

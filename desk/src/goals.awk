@@ -19,5 +19,6 @@ END {
     print "| call | goal | measured | |"
     print "|---|---:|---|---|"
     for (i = 1; i <= n; i++)
-        printf "| %s | %.1f | %.2f to %.2f | %s |\n", names[i], goals[i], low[i], high[i], high[i] <= goals[i] ? "met" : "not met: " worst[i]
+        if (!high[i]) printf "| %s | %.1f | not measured | |\n", names[i], goals[i]
+        else printf "| %s | %.1f | %.2f to %.2f | %s |\n", names[i], goals[i], low[i], high[i], high[i] <= goals[i] ? "met" : "not met: " worst[i]
 }

@@ -13,14 +13,12 @@ use msi_forms::columns::from_made;
 use msi_forms::columns::parts_of;
 use msi_forms::values::value_in;
 ghost use mathlib.Core.Path.{_≡_};
-ghost use Rattle.value.specs.Kinds.{kindOf, numberOf};
 ghost use Rattle.column.specs.Columns.{building, withLocalizable, withNullable, withPrimaryKey, withRange, finished, bitsColumn, bitfieldAnswer};
-ghost use Rattle.column.specs.Check.{checkAnswer};
 ghost use Rattle.column_type.specs.declared.form.ColumnType.the-variants as types;
 ghost use Rattle.msi_forms.specs.Answers.{flagIn};
 ghost use Rattle.msi_forms.specs.Pools.{referenceIn};
-ghost use Rattle.msi_forms.specs.Columns.{builderIn, builderOut, columnFrom, partsOf, columnIn};
-ghost use Rattle.msi_forms.specs.Values.{valueIn};
+ghost use Rattle.msi_forms.specs.Columns.{builderIn, builderOut, columnFrom, onColumn, partsOf, columnIn};
+ghost use Rattle.msi_forms.specs.Values.{checkBy};
 
 #[no_mangle]
 pub extern "C" fn strandroost_column_build() -> ColumnParts
@@ -103,10 +101,10 @@ pub extern "C" fn strandroost_column_from_bitfield(builder: ColumnParts, bits: i
 
 #[no_mangle]
 pub extern "C" fn strandroost_column_bitfield(column: ColumnParts) -> Reference
-    ensures { λ r. ⌜ r ≡ referenceIn (bitfieldAnswer (columnFrom column)) ⌝ }
+    ensures { λ r. ⌜ r ≡ referenceIn (onColumn column (bitfieldAnswer (columnFrom column))) ⌝ }
 {
     let made = column_in(column);
-    from_bits(made.bitfield())
+    from_bits(made.bitfield(), column)
 }
 
 #[no_mangle]
@@ -116,9 +114,9 @@ pub extern "C" fn strandroost_is_valid_value(
     number: i32,
     text: &[u8],
 ) -> Flag
-    ensures { λ r. ⌜ r ≡ flagIn (checkAnswer (columnFrom column) (kindOf (valueIn kind number)) (numberOf (valueIn kind number)) (now (text .entry))) ⌝ }
+    ensures { λ r. ⌜ r ≡ flagIn (checkBy column kind number (now (text .entry))) ⌝ }
 {
     let made = column_in(column);
     let value = value_in(kind, number);
-    from_check(made.is_valid_value(value, text))
+    from_check(made.is_valid_value(value, text), column, kind)
 }

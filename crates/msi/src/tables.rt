@@ -7,6 +7,7 @@ use msi_forms::answers::TableAnswer;
 use msi_forms::answers::TableParts;
 use msi_forms::tables::from_cell;
 use msi_forms::tables::from_laid;
+use msi_forms::tables::from_new;
 use msi_forms::tables::from_rows;
 use msi_forms::tables::from_step;
 use msi_forms::tables::table_in;
@@ -17,17 +18,17 @@ ghost use Rattle.table.specs.Reading.{numRowsAnswer, readCellAnswer, readRowsOu
 ghost use Rattle.table.specs.Writing.{writeRowsOutcome};
 ghost use Rattle.rows.specs.Next.{nextOutcome};
 ghost use Rattle.msi_forms.specs.Answers.{countIn, handed};
-ghost use Rattle.msi_forms.specs.Tables.{tableIn, laidIn, cellIn, stepIn};
+ghost use Rattle.msi_forms.specs.Tables.{tableIn, onTable, laidIn, newIn, cellIn, stepIn};
 
 // The layout of the columns handed over, judged.
 #[no_mangle]
 pub extern "C" fn strandroost_table_new(table: TableParts) -> TableAnswer
-    ensures { λ r. ⌜ r ≡ laidIn (columnsOutcome (tableIn table .columns) (tableIn table .count) (tableIn table .«long_string_refs»)) ⌝ }
+    ensures { λ r. ⌜ r ≡ newIn table (columnsOutcome (tableIn table .columns) (tableIn table .count) (tableIn table .«long_string_refs»)) ⌝ }
 {
     let parts = table_in(table);
     let columns = parts.columns;
     let made = Table::new(columns, parts.count, parts.long_string_refs);
-    from_laid(made)
+    from_new(made, table)
 }
 
 #[no_mangle]
@@ -42,10 +43,10 @@ pub extern "C" fn strandroost_table_from_bitfields(
 
 #[no_mangle]
 pub extern "C" fn strandroost_num_rows(table: TableParts, stream: &[u8]) -> Count
-    ensures { λ r. ⌜ r ≡ countIn (numRowsAnswer (tableIn table) (now (stream .entry))) ⌝ }
+    ensures { λ r. ⌜ r ≡ countIn (onTable table (numRowsAnswer (tableIn table) (now (stream .entry)))) ⌝ }
 {
     let made = table_in(table);
-    from_rows(made.num_rows(stream))
+    from_rows(made.num_rows(stream), table)
 }
 
 #[no_mangle]
@@ -55,10 +56,10 @@ pub extern "C" fn strandroost_read_cell(
     row: usize,
     column: usize,
 ) -> CellAnswer
-    ensures { λ r. ⌜ r ≡ cellIn (readCellAnswer (tableIn table) (now (stream .entry)) row column) ⌝ }
+    ensures { λ r. ⌜ r ≡ cellIn (onTable table (readCellAnswer (tableIn table) (now (stream .entry)) row column)) ⌝ }
 {
     let made = table_in(table);
-    from_cell(made.read_cell(stream, row, column))
+    from_cell(made.read_cell(stream, row, column), table)
 }
 
 #[no_mangle]
@@ -69,10 +70,10 @@ pub extern "C" fn strandroost_read_rows(
     numbers: &mut [i32],
 ) -> Count
     ensures { λ r. ⌜ (r, (now (kinds .exit), now (numbers .exit)))
-        ≡ handed countIn (readRowsOutcome (tableIn table) (now (stream .entry)) (now (kinds .entry)) (now (numbers .entry))) ⌝ }
+        ≡ handed (λ a. countIn (onTable table a)) (readRowsOutcome (tableIn table) (now (stream .entry)) (now (kinds .entry)) (now (numbers .entry))) ⌝ }
 {
     let made = table_in(table);
-    from_rows(made.read_rows(stream, kinds, numbers))
+    from_rows(made.read_rows(stream, kinds, numbers), table)
 }
 
 #[no_mangle]
@@ -84,17 +85,17 @@ pub extern "C" fn strandroost_write_rows(
     out: &mut [u8],
 ) -> Count
     ensures { λ r. ⌜ (r, now (out .exit))
-        ≡ handed countIn (writeRowsOutcome (tableIn table) rows (record { kinds = now (kinds .entry); numbers = now (numbers .entry) }) (now (out .entry))) ⌝ }
+        ≡ handed (λ a. countIn (onTable table a)) (writeRowsOutcome (tableIn table) rows (record { kinds = now (kinds .entry); numbers = now (numbers .entry) }) (now (out .entry))) ⌝ }
 {
     let made = table_in(table);
-    from_rows(made.write_rows(rows, kinds, numbers, out))
+    from_rows(made.write_rows(rows, kinds, numbers, out), table)
 }
 
 // A step of the row reader from the place `at`: state in, state out.
 #[no_mangle]
 pub extern "C" fn strandroost_rows_next(table: TableParts, stream: &[u8], at: usize) -> StepAnswer
-    ensures { λ r. ⌜ r ≡ stepIn (nextOutcome (tableIn table) (now (stream .entry)) at) ⌝ }
+    ensures { λ r. ⌜ r ≡ stepIn (handed (onTable table) (nextOutcome (tableIn table) (now (stream .entry)) at)) ⌝ }
 {
     let made = table_in(table);
-    from_step(rows::next_at(stream, at, made))
+    from_step(rows::next_at(stream, at, made), table)
 }

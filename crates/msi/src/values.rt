@@ -5,22 +5,23 @@ use msi_forms::answers::Count;
 use msi_forms::answers::CreateAnswer;
 use msi_forms::answers::Pool;
 use msi_forms::answers::PoolAnswer;
+use msi_forms::answers::is_unknown;
 use msi_forms::answers::refused_count;
-use msi_forms::pools::from_dropped;
+use msi_forms::answers::unknown_kind;
 use msi_forms::pools::state;
 use msi_forms::values::from_created;
+use msi_forms::values::from_removed;
 use msi_forms::values::from_shown;
 use msi_forms::values::plain_in;
 use msi_forms::values::value_in;
 use pool_values::Shown;
 ghost use mathlib.Core.Path.{_≡_};
+ghost use Rattle.common.specs.Answers.{outcome};
 ghost use Rattle.stringpool.specs.Pool.{rooms};
-ghost use Rattle.value.specs.Kinds.{kindOf, numberOf};
-ghost use Rattle.pool_values.specs.Pooled.{valueKind, valueNumber, createOutcome, removeOutcome, shownAnswer, textAnswer};
 ghost use Rattle.msi_forms.specs.Answers.{countIn, handed};
 ghost use Rattle.msi_forms.specs.Pools.{stateIn, poolIn};
 ghost use Rattle.msi_forms.specs.Tables.{cellIn};
-ghost use Rattle.msi_forms.specs.Values.{valueIn, plainIn, createdIn};
+ghost use Rattle.msi_forms.specs.Values.{createBy, removeBy, shownBy, textBy, createdIn};
 ghost use Rattle.msi.specs.Texts.{copiedOutcome};
 
 // A text is taken into the pool; any other value leaves it as it is.
@@ -35,12 +36,13 @@ pub extern "C" fn strandroost_create(
     text: &mut [u8],
 ) -> CreateAnswer
     ensures { λ r. ⌜ (r, rooms (now (lengths .exit)) (now (counts .exit)) (now (text .exit)))
-        ≡ handed createdIn (createOutcome (valueKind (plainIn kind number)) (valueNumber (plainIn kind number)) (now (new .entry)) (stateIn pool)
-        (rooms (now (lengths .entry)) (now (counts .entry)) (now (text .entry)))) ⌝ }
+        ≡ handed createdIn (outcome (rooms (now (lengths .entry)) (now (counts .entry)) (now (text .entry)))
+        (createBy kind number (now (new .entry)) (stateIn pool) (rooms (now (lengths .entry)) (now (counts .entry)) (now (text .entry))))) ⌝ }
 {
     let was = state(pool);
     let value = plain_in(kind, number);
-    from_created(pool_values::create(value, new, was, lengths, counts, text))
+    let answer = pool_values::create(value, new, was, lengths, counts, text);
+    from_created(answer, kind)
 }
 
 // A reference is dropped; any other value leaves the pool as it is.
@@ -54,12 +56,13 @@ pub extern "C" fn strandroost_remove(
     text: &mut [u8],
 ) -> PoolAnswer
     ensures { λ r. ⌜ (r, rooms (now (lengths .exit)) (now (counts .exit)) (now (text .exit)))
-        ≡ handed poolIn (removeOutcome (kindOf (valueIn kind number)) (numberOf (valueIn kind number)) (stateIn pool)
-        (rooms (now (lengths .entry)) (now (counts .entry)) (now (text .entry)))) ⌝ }
+        ≡ handed poolIn (outcome (rooms (now (lengths .entry)) (now (counts .entry)) (now (text .entry)))
+        (removeBy kind number (stateIn pool) (rooms (now (lengths .entry)) (now (counts .entry)) (now (text .entry))))) ⌝ }
 {
     let was = state(pool);
     let value = value_in(kind, number);
-    from_dropped(pool_values::remove(value, was, lengths, counts, text))
+    let answer = pool_values::remove(value, was, lengths, counts, text);
+    from_removed(answer, kind)
 }
 
 // The value that a cell stands for; where it is a text, `strandroost_to_text` copies it.
@@ -72,12 +75,12 @@ pub extern "C" fn strandroost_to_value(
     counts: &[u16],
     text: &[u8],
 ) -> CellAnswer
-    ensures { λ r. ⌜ r ≡ cellIn (shownAnswer (kindOf (valueIn kind number)) (numberOf (valueIn kind number)) (stateIn pool)
-        (rooms (now (lengths .entry)) (now (counts .entry)) (now (text .entry)))) ⌝ }
+    ensures { λ r. ⌜ r ≡ cellIn (shownBy kind number (stateIn pool) (rooms (now (lengths .entry)) (now (counts .entry)) (now (text .entry)))) ⌝ }
 {
     let was = state(pool);
     let value = value_in(kind, number);
-    from_shown(pool_values::to_value(value, was, lengths, counts, text))
+    let answer = pool_values::to_value(value, was, lengths, counts, text);
+    from_shown(answer, kind)
 }
 
 // The text of a cell that holds a reference, none of any other.
@@ -91,14 +94,22 @@ pub extern "C" fn strandroost_to_text(
     text: &[u8],
     out: &mut [u8],
 ) -> Count
-    ensures { λ r. ⌜ (r, now (out .exit)) ≡ handed countIn (copiedOutcome (textAnswer (kindOf (valueIn kind number)) (numberOf (valueIn kind number)) (stateIn pool)
-        (rooms (now (lengths .entry)) (now (counts .entry)) (now (text .entry)))) (now (out .entry))) ⌝ }
+    ensures { λ r. ⌜ (r, now (out .exit))
+        ≡ handed countIn (copiedOutcome (textBy kind number (stateIn pool) (rooms (now (lengths .entry)) (now (counts .entry)) (now (text .entry)))) (now (out .entry))) ⌝ }
 {
     let was = state(pool);
     let value = value_in(kind, number);
     let shown = pool_values::to_value(value, was, lengths, counts, text);
     match shown {
         Shown::Refused(why) => refused_count(why),
-        Shown::Value(_) => copied(pool_values::to_text(value, was, lengths, counts, text), out),
+        Shown::Value(_) => {
+            if is_unknown(kind) {
+                return Count {
+                    refused: unknown_kind(),
+                    value: 0,
+                };
+            }
+            copied(pool_values::to_text(value, was, lengths, counts, text), out)
+        }
     }
 }

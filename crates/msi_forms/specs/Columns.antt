@@ -1,8 +1,9 @@
 -- A column as C has it, and the answers that hold one.
-use Prim.Native.Nat.{ℕ}
+use Prim.Native.Nat.{ℕ, _+_}
 use mathlib.Core.Bool.{true, false}
 use lib.IntN.{pos}
 use Rattle.common.specs.Choice.{if_then_else_, _=?_}
+use Rattle.common.specs.Sizes.{maxString}
 use Rattle.common.specs.Answers.{Answer}
 use Rattle.column.specs.Columns.{building, finished}
 use Rattle.column_type.specs.declared.form.ColumnType.{ColumnType}
@@ -12,16 +13,20 @@ use Rattle.column.specs.declared.column.ValueRange.the-variants.{Any, Within}
 use Rattle.column.specs.declared.column.Column.{Column}
 use Rattle.column.specs.declared.column.ColumnBuilder.{ColumnBuilder}
 use Rattle.msi_forms.specs.Answers.{refusalIn, givenOr}
+use Rattle.msi_forms.specs.Unknown.{onTypes}
 use Rattle.msi_forms.specs.declared.answers.ColumnParts.{ColumnParts}
 use Rattle.msi_forms.specs.declared.answers.ColumnAnswer.{ColumnAnswer}
 use Rattle.msi_forms.specs.declared.columns.RangeParts.{RangeParts}
 
+-- An unknown type is taken to a Str beyond its maximum: every call refuses that as a bad column, in 01's order, with 19. So `onColumn`
+-- has only the number to say anew.
 abbrev pub typeIn : ColumnParts → ColumnType
 typeIn p =
     if p .coltype =? 0 then types.Int16
     else if p .coltype =? 1 then types.Int32
     else if p .coltype =? 2 then types.Str (p .«max_len»)
-    else types.Binary
+    else if p .coltype =? 3 then types.Binary
+    else types.Str (maxString + 1)
 
 abbrev pub rangeIn : ColumnParts → ValueRange
 rangeIn p = if p .«has_range» then Within (p .min) (p .max) else Any
@@ -31,6 +36,10 @@ builderIn p = record { «is_localizable» = p .«is_localizable»; «is_nullable
 
 abbrev pub columnFrom : ColumnParts → Column
 columnFrom p = finished (builderIn p) (typeIn p)
+
+-- what a call on this column answers: 16 where its type is unknown, as 19 for a Str beyond its maximum
+abbrev pub onColumn : {A : Type 0} → ColumnParts → Answer A → Answer A
+onColumn p a = onTypes (λ c. p .coltype) a
 
 abbrev pub typeNumber : ColumnType → ℕ
 typeNumber types.Int16 = 0

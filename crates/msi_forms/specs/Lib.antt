@@ -2,4 +2,5 @@ pub mod Answers
 pub mod Columns
 pub mod Pools
 pub mod Tables
+pub mod Unknown
 pub mod Values

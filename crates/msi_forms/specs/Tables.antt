@@ -3,12 +3,15 @@ use Prim.Native.Nat.{ℕ}
 use mathlib.Core.Bool.{Bool, true, false}
 use mathlib.Core.List.{map}
 use lib.IntN.{ℤ, pos}
-use Rattle.common.specs.Answers.{Answer, refused}
+use lib.ListN.{getD}
+use Rattle.common.specs.Answers.{Answer, gives, refused}
 use Rattle.table.specs.declared.layout.Table.{Table}
 use Rattle.rows.specs.Next.{Next, another, none}
 use Rattle.msi_forms.specs.Answers.{refusalIn, givenOr}
 use Rattle.msi_forms.specs.Columns.{columnFrom, partsOf}
+use Rattle.msi_forms.specs.Unknown.{onTypes}
 use Rattle.msi_forms.specs.declared.answers.CellAnswer.{CellAnswer}
+use Rattle.msi_forms.specs.declared.answers.ColumnParts.{ColumnParts}
 use Rattle.msi_forms.specs.declared.answers.TableParts.{TableParts}
 use Rattle.msi_forms.specs.declared.answers.TableAnswer.{TableAnswer}
 use Rattle.msi_forms.specs.declared.answers.StepAnswer.{StepAnswer}
@@ -20,9 +23,25 @@ tableIn t = record { columns = map columnFrom (t .columns); count = t .count; «
 abbrev pub tableOut : Table → TableParts
 tableOut t = record { columns = map partsOf (t .columns); count = t .count; «long_string_refs» = t .«long_string_refs» }
 
+-- the type that column c was handed over with
+abbrev pub typeAt : TableParts → ℕ → ℕ
+typeAt t c = getD (map (λ (p : ColumnParts). p .coltype) (t .columns)) c 0
+
+-- what a call on this table answers: "13 or 19 at the first bad column", or 16 where its type is unknown
+abbrev pub onTable : {A : Type 0} → TableParts → Answer A → Answer A
+onTable t a = onTypes (typeAt t) a
+
 -- the layout stands beside the refusal
 abbrev pub laidIn : Answer (Unit {0}) × Table → TableAnswer
 laidIn x = record { refused = refusalIn (x .0); table = tableOut (x .1) }
+
+-- a layout of columns is handed back as it came, the places that are not in use too, whatever their types; a refused one has no columns
+abbrev pub layoutOr : Table → TableParts → Answer (Unit {0}) → TableParts
+layoutOr empty t (gives x) = t
+layoutOr empty t (refused n at) = tableOut empty
+
+abbrev pub newIn : TableParts → Answer (Unit {0}) × Table → TableAnswer
+newIn t x = record { refused = refusalIn (onTable t (x .0)); table = layoutOr (x .1) t (x .0) }
 
 abbrev pub cellIn : Answer (ℕ × ℤ) → CellAnswer
 cellIn a = record { refused = refusalIn a; kind = givenOr (0, pos 0) a .0; number = givenOr (0, pos 0) a .1 }

@@ -3,7 +3,10 @@ use common::Place;
 use common::Refusal;
 ghost use mathlib.Core.Path.{_≡_};
 ghost use Rattle.common.specs.Refusals.{numberOf, whereOf, refusedBy};
+ghost use Rattle.common.specs.Answers.{nowhere};
+ghost use Rattle.common.specs.Answers as places;
 ghost use Rattle.msi_forms.specs.Answers.{refusalAt, noRefusal, countIn};
+ghost use Rattle.msi_forms.specs.Unknown.{unknown, numberAt};
 
 // `place` is 0 where there is none, 1 for a column, 2 for a cell.
 #[repr(C)]
@@ -71,6 +74,53 @@ pub fn told(why: Refusal) -> Refused
     }
 }
 
+pub fn is_unknown(kind: u8) -> bool
+    ensures { λ r. ⌜ r ≡ unknown kind ⌝ }
+{
+    kind > 3
+}
+
+// 16 for a value by itself, which stands in no cell.
+pub fn unknown_kind() -> Refused
+    ensures { λ r. ⌜ r ≡ refusalAt 16 nowhere ⌝ }
+{
+    Refused {
+        number: 16,
+        place: 0,
+        row: 0,
+        column: 0,
+    }
+}
+
+// 16 for a column of an unknown type, and for a value beside a column.
+pub fn unknown_at(column: usize) -> Refused
+    ensures { λ r. ⌜ r ≡ refusalAt 16 (places.column column) ⌝ }
+{
+    Refused {
+        number: 16,
+        place: 1,
+        row: 0,
+        column,
+    }
+}
+
+// A refusal on columns, where the one that it names was handed over with this type.
+pub fn told_of(why: Refusal, coltype: u32) -> Refused
+    ensures { λ r. ⌜ r ≡ refusalAt (numberAt (λ c. coltype) (numberOf why) (whereOf why)) (whereOf why) ⌝ }
+{
+    let place = why.place();
+    match place {
+        Place::Nowhere => told(why),
+        Place::Column(c) => {
+            if coltype > 3 {
+                return unknown_at(c);
+            }
+            told(why)
+        }
+        Place::Cell { row: _, column: _ } => told(why),
+    }
+}
+
 // A pool's state; its rooms are lent beside it.
 #[repr(C)]
 pub struct Pool {
@@ -106,8 +156,8 @@ pub struct CellAnswer {
     pub number: i32,
 }
 
-// A column, or one being made: its type (0 Int16, 1 Int32, 2 Str, any other Binary) with the maximum of a Str, its marks, and
-// its range, which counts where `has_range` is set.
+// A column, or one being made: its type (0 Int16, 1 Int32, 2 Str, 3 Binary, any other unknown) with the maximum of a Str, its
+// marks, and its range, which counts where `has_range` is set.
 #[repr(C)]
 pub struct ColumnParts {
     pub coltype: u32,

@@ -3,8 +3,11 @@ use crate::answers::ColumnAnswer;
 use crate::answers::ColumnParts;
 use crate::answers::Flag;
 use crate::answers::Reference;
+use crate::answers::is_unknown;
 use crate::answers::none;
 use crate::answers::told;
+use crate::answers::told_of;
+use crate::answers::unknown_at;
 use column::Bitfield;
 use column::Column;
 use column::ColumnBuilder;
@@ -12,12 +15,15 @@ use column::ColumnMade;
 use column::ColumnType;
 use column::Validity;
 use column::ValueRange;
+use common::sizes::MAX_STRING;
 ghost use mathlib.Core.Path.{_≡_};
 ghost use Rattle.column.specs.Columns.{columnMadeAs, bitfieldAs};
 ghost use Rattle.column.specs.Check.{validityAs};
 ghost use Rattle.msi_forms.specs.Answers.{flagIn};
 ghost use Rattle.msi_forms.specs.Pools.{referenceIn};
-ghost use Rattle.msi_forms.specs.Columns.{typeIn, rangeIn, builderIn, columnFrom, typeNumber, typeMaximum, rangeOf, partsOf, builderOut, columnIn};
+ghost use Rattle.common.specs.Answers as places;
+ghost use Rattle.msi_forms.specs.Columns.{typeIn, rangeIn, builderIn, columnFrom, onColumn, typeNumber, typeMaximum, rangeOf, partsOf, builderOut, columnIn};
+ghost use Rattle.msi_forms.specs.Unknown.{onKind};
 
 // The range of a column.
 struct RangeParts {
@@ -26,6 +32,7 @@ struct RangeParts {
     max: i32,
 }
 
+// An unknown type is a Str beyond its maximum, a bad column to every call.
 fn type_in(parts: ColumnParts) -> ColumnType
     ensures { λ r. ⌜ r ≡ typeIn parts ⌝ }
 {
@@ -38,7 +45,10 @@ fn type_in(parts: ColumnParts) -> ColumnType
     if parts.coltype == 2 {
         return ColumnType::Str(parts.max_len);
     }
-    ColumnType::Binary
+    if parts.coltype == 3 {
+        return ColumnType::Binary;
+    }
+    ColumnType::Str(MAX_STRING + 1)
 }
 
 fn range_in(parts: ColumnParts) -> ValueRange
@@ -159,8 +169,8 @@ pub fn from_made(answer: ColumnMade) -> ColumnAnswer
     }
 }
 
-pub fn from_bits(answer: Bitfield) -> Reference
-    ensures { λ r. ⌜ r ≡ referenceIn (bitfieldAs answer) ⌝ }
+pub fn from_bits(answer: Bitfield, column: ColumnParts) -> Reference
+    ensures { λ r. ⌜ r ≡ referenceIn (onColumn column (bitfieldAs answer)) ⌝ }
 {
     match answer {
         Bitfield::Bits(value) => Reference {
@@ -168,26 +178,36 @@ pub fn from_bits(answer: Bitfield) -> Reference
             value,
         },
         Bitfield::Refused(why) => Reference {
-            refused: told(why),
+            refused: told_of(why, column.coltype),
             value: 0,
         },
     }
 }
 
-pub fn from_check(answer: Validity) -> Flag
-    ensures { λ r. ⌜ r ≡ flagIn (validityAs answer) ⌝ }
+// Whether a value of a known kind suits its column.
+fn checked(value: bool, kind: u8) -> Flag
+    ensures { λ r. ⌜ r ≡ flagIn (onKind (places.column 0) kind (places.gives value)) ⌝ }
+{
+    if is_unknown(kind) {
+        return Flag {
+            refused: unknown_at(0),
+            value: false,
+        };
+    }
+    Flag {
+        refused: none(),
+        value,
+    }
+}
+
+pub fn from_check(answer: Validity, column: ColumnParts, kind: u8) -> Flag
+    ensures { λ r. ⌜ r ≡ flagIn (onKind (places.column 0) kind (onColumn column (validityAs answer))) ⌝ }
 {
     match answer {
-        Validity::Valid => Flag {
-            refused: none(),
-            value: true,
-        },
-        Validity::Invalid => Flag {
-            refused: none(),
-            value: false,
-        },
+        Validity::Valid => checked(true, kind),
+        Validity::Invalid => checked(false, kind),
         Validity::Refused(why) => Flag {
-            refused: told(why),
+            refused: told_of(why, column.coltype),
             value: false,
         },
     }

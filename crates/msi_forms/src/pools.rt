@@ -28,7 +28,7 @@ ghost use Rattle.stringpool.specs.Take.{takenAs};
 ghost use Rattle.stringpool.specs.Drop.{droppedAs};
 ghost use Rattle.stringpool.specs.Write.{writtenAs};
 ghost use Rattle.msi_forms.specs.Answers.{refusalIn, countIn};
-ghost use Rattle.msi_forms.specs.Pools.{stateIn, poolOut, poolIn, takenIn, referenceIn};
+ghost use Rattle.msi_forms.specs.Pools.{stateIn, poolOut, noPool, poolIn, takenIn, referenceIn};
 
 pub fn state(pool: Pool) -> StringPool
     ensures { λ r. ⌜ r ≡ stateIn pool ⌝ }
@@ -50,7 +50,7 @@ pub fn state_out(pool: StringPool) -> Pool
     }
 }
 
-fn given_pool(pool: StringPool) -> PoolAnswer
+pub fn given_pool(pool: StringPool) -> PoolAnswer
     ensures { λ r. ⌜ r ≡ poolIn (gives pool) ⌝ }
 {
     PoolAnswer {
@@ -59,17 +59,24 @@ fn given_pool(pool: StringPool) -> PoolAnswer
     }
 }
 
-fn refused_pool(why: Refusal) -> PoolAnswer
-    ensures { λ r. ⌜ r ≡ poolIn (refusedBy why) ⌝ }
+// A refusal, and no pool beside it.
+pub fn no_pool(refused: Refused) -> PoolAnswer
+    ensures { λ r. ⌜ r ≡ record { refused = refused; pool = poolOut noPool } ⌝ }
 {
     PoolAnswer {
-        refused: told(why),
+        refused,
         pool: Pool {
             num_strings: 0,
             codepage: 0,
             long_string_refs: false,
         },
     }
+}
+
+fn refused_pool(why: Refusal) -> PoolAnswer
+    ensures { λ r. ⌜ r ≡ poolIn (refusedBy why) ⌝ }
+{
+    no_pool(told(why))
 }
 
 pub fn from_pooled(answer: Pooled) -> PoolAnswer

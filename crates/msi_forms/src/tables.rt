@@ -7,12 +7,13 @@ use crate::answers::StepAnswer;
 use crate::answers::TableAnswer;
 use crate::answers::TableParts;
 use crate::answers::none;
-use crate::answers::refused_count;
 use crate::answers::told;
+use crate::answers::told_of;
 use crate::columns::builder_out;
 use crate::columns::column_in;
 use crate::columns::parts_of;
 use column::Column;
+use common::Place;
 use common::Refusal;
 use rows::NextCell;
 use rows::Step;
@@ -24,7 +25,7 @@ use table::TableMade;
 use value::ValueRef;
 ghost use mathlib.Core.Path.{_≡_};
 ghost use Rattle.common.specs.Answers.{gives};
-ghost use Rattle.common.specs.Refusals.{refusedBy};
+ghost use Rattle.common.specs.Refusals.{numberOf, whereOf};
 ghost use Rattle.value.specs.Kinds.{cellAs};
 ghost use Rattle.table.specs.Layout.{laidAs, madeAs};
 ghost use Rattle.table.specs.Reading.{countedAs, cellReadAs};
@@ -32,8 +33,9 @@ ghost use lib.IntN.{pos};
 ghost use mathlib.Core.Bool.{false};
 ghost use Rattle.rows.specs.Next.{stepAs};
 ghost use Rattle.rows.specs.Next as next;
-ghost use Rattle.msi_forms.specs.Answers.{countIn, refusalIn};
-ghost use Rattle.msi_forms.specs.Tables.{tableIn, tableOut, laidIn, cellIn, stepIn};
+ghost use Rattle.msi_forms.specs.Answers.{countIn, refusalAt, refusalIn, handed};
+ghost use Rattle.msi_forms.specs.Tables.{tableIn, tableOut, typeAt, onTable, laidIn, newIn, cellIn, stepIn};
+ghost use Rattle.msi_forms.specs.Unknown.{numberAt};
 
 pub fn table_in(table: TableParts) -> Table
     ensures { λ r. ⌜ r ≡ tableIn table ⌝ }
@@ -69,6 +71,28 @@ fn table_out(table: Table) -> TableParts
     }
 }
 
+fn type_at(table: TableParts, c: usize) -> u32
+    ensures { λ r. ⌜ r ≡ typeAt table c ⌝ }
+{
+    if c >= 64 {
+        return 0;
+    }
+    let column = table.columns[c];
+    column.coltype
+}
+
+// A refusal on a table: at a column of an unknown type it is 16.
+fn told_in(why: Refusal, table: TableParts) -> Refused
+    ensures { λ r. ⌜ r ≡ refusalAt (numberAt (typeAt table) (numberOf why) (whereOf why)) (whereOf why) ⌝ }
+{
+    let place = why.place();
+    match place {
+        Place::Nowhere => told(why),
+        Place::Column(c) => told_of(why, type_at(table, c)),
+        Place::Cell { row: _, column: _ } => told(why),
+    }
+}
+
 fn refusal_of(answer: Laid) -> Refused
     ensures { λ r. ⌜ r ≡ refusalIn (laidAs answer) ⌝ }
 {
@@ -87,23 +111,44 @@ pub fn from_laid(made: TableMade) -> TableAnswer
     TableAnswer { refused, table }
 }
 
-pub fn from_rows(answer: Counted) -> Count
-    ensures { λ r. ⌜ r ≡ countIn (countedAs answer) ⌝ }
+// The layout that was handed over, or none where it is refused.
+pub fn from_new(made: TableMade, table: TableParts) -> TableAnswer
+    ensures { λ r. ⌜ r ≡ newIn table (madeAs made) ⌝ }
+{
+    let answer = made.answer;
+    match answer {
+        Laid::Made => TableAnswer {
+            refused: none(),
+            table,
+        },
+        Laid::Refused(why) => TableAnswer {
+            refused: told_in(why, table),
+            table: table_out(made.table),
+        },
+    }
+}
+
+pub fn from_rows(answer: Counted, table: TableParts) -> Count
+    ensures { λ r. ⌜ r ≡ countIn (onTable table (countedAs answer)) ⌝ }
 {
     match answer {
         Counted::Count(value) => Count {
             refused: none(),
             value,
         },
-        Counted::Refused(why) => refused_count(why),
+        Counted::Refused(why) => Count {
+            refused: told_in(why, table),
+            value: 0,
+        },
     }
 }
 
-pub fn refused_cell(why: Refusal) -> CellAnswer
-    ensures { λ r. ⌜ r ≡ cellIn (refusedBy why) ⌝ }
+// A refusal, and no value beside it.
+pub fn no_value(refused: Refused) -> CellAnswer
+    ensures { λ r. ⌜ r ≡ record { refused = refused; kind = 0; number = pos 0 } ⌝ }
 {
     CellAnswer {
-        refused: told(why),
+        refused,
         kind: 0,
         number: 0,
     }
@@ -119,12 +164,12 @@ fn given_cell(value: ValueRef) -> CellAnswer
     }
 }
 
-pub fn from_cell(answer: CellRead) -> CellAnswer
-    ensures { λ r. ⌜ r ≡ cellIn (cellReadAs answer) ⌝ }
+pub fn from_cell(answer: CellRead, table: TableParts) -> CellAnswer
+    ensures { λ r. ⌜ r ≡ cellIn (onTable table (cellReadAs answer)) ⌝ }
 {
     match answer {
         CellRead::Value(value) => given_cell(value),
-        CellRead::Refused(why) => refused_cell(why),
+        CellRead::Refused(why) => no_value(told_in(why, table)),
     }
 }
 
@@ -152,14 +197,14 @@ fn another(value: ValueRef, at: usize) -> StepAnswer
     }
 }
 
-pub fn from_step(step: Step) -> StepAnswer
-    ensures { λ r. ⌜ r ≡ stepIn (stepAs step) ⌝ }
+pub fn from_step(step: Step, table: TableParts) -> StepAnswer
+    ensures { λ r. ⌜ r ≡ stepIn (handed (onTable table) (stepAs step)) ⌝ }
 {
     let cell = step.cell;
     let at = step.at;
     match cell {
         NextCell::Cell(value) => another(value, at),
         NextCell::End => no_cell(none(), at),
-        NextCell::Refused(why) => no_cell(told(why), at),
+        NextCell::Refused(why) => no_cell(told_in(why, table), at),
     }
 }

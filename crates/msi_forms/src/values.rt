@@ -2,23 +2,35 @@
 use crate::answers::CellAnswer;
 use crate::answers::CreateAnswer;
 use crate::answers::Pool;
+use crate::answers::PoolAnswer;
+use crate::answers::Refused;
+use crate::answers::is_unknown;
 use crate::answers::none;
 use crate::answers::told;
+use crate::answers::unknown_kind;
+use crate::pools::given_pool;
+use crate::pools::no_pool;
 use crate::pools::state_out;
-use crate::tables::refused_cell;
+use crate::tables::no_value;
 use pool_values::Created;
 use pool_values::Shown;
 use pool_values::Value;
+use stringpool::Dropped;
 use stringpool::StringPool;
 use stringpool::StringRef;
 use value::ValueRef;
 ghost use mathlib.Core.Path.{_≡_};
-ghost use Rattle.common.specs.Answers.{gives};
+ghost use Rattle.common.specs.Answers.{gives, nowhere};
 ghost use Rattle.value.specs.Kinds.{kindOf, numberOf};
 ghost use Rattle.pool_values.specs.Pooled.{valueKind, valueNumber, createdAs, shownAs};
+ghost use lib.IntN.{pos};
+ghost use Rattle.stringpool.specs.Drop.{droppedAs};
+ghost use Rattle.msi_forms.specs.Pools.{poolIn, poolOut, noPool};
 ghost use Rattle.msi_forms.specs.Tables.{cellIn};
+ghost use Rattle.msi_forms.specs.Unknown.{onKind};
 ghost use Rattle.msi_forms.specs.Values.{valueIn, plainIn, createdIn};
 
+// A value of an unknown kind is judged as a Binary is, and refused where that would not be: by `is_unknown`, on the way out.
 pub fn value_in(kind: u8, number: i32) -> ValueRef
     ensures { λ r. ⌜ r ≡ valueIn kind number ⌝ }
 {
@@ -61,21 +73,47 @@ fn created(value: ValueRef, pool: StringPool) -> CreateAnswer
     }
 }
 
-pub fn from_created(answer: Created) -> CreateAnswer
-    ensures { λ r. ⌜ r ≡ createdIn (createdAs answer) ⌝ }
+// A refusal, and no value or pool beside it.
+fn not_created(refused: Refused) -> CreateAnswer
+    ensures { λ r. ⌜ r ≡ record { refused = refused; pool = poolOut noPool; kind = 0; number = pos 0 } ⌝ }
+{
+    CreateAnswer {
+        refused,
+        pool: Pool {
+            num_strings: 0,
+            codepage: 0,
+            long_string_refs: false,
+        },
+        kind: 0,
+        number: 0,
+    }
+}
+
+pub fn from_created(answer: Created, kind: u8) -> CreateAnswer
+    ensures { λ r. ⌜ r ≡ createdIn (onKind nowhere kind (createdAs answer)) ⌝ }
 {
     match answer {
-        Created::Value(value, pool) => created(value, pool),
-        Created::Refused(why) => CreateAnswer {
-            refused: told(why),
-            pool: Pool {
-                num_strings: 0,
-                codepage: 0,
-                long_string_refs: false,
-            },
-            kind: 0,
-            number: 0,
-        },
+        Created::Value(value, pool) => {
+            if is_unknown(kind) {
+                return not_created(unknown_kind());
+            }
+            created(value, pool)
+        }
+        Created::Refused(why) => not_created(told(why)),
+    }
+}
+
+pub fn from_removed(answer: Dropped, kind: u8) -> PoolAnswer
+    ensures { λ r. ⌜ r ≡ poolIn (onKind nowhere kind (droppedAs answer)) ⌝ }
+{
+    match answer {
+        Dropped::Done(pool) => {
+            if is_unknown(kind) {
+                return no_pool(unknown_kind());
+            }
+            given_pool(pool)
+        }
+        Dropped::Refused(why) => no_pool(told(why)),
     }
 }
 
@@ -108,11 +146,16 @@ fn shown_value(value: Value) -> CellAnswer
     }
 }
 
-pub fn from_shown(answer: Shown) -> CellAnswer
-    ensures { λ r. ⌜ r ≡ cellIn (shownAs answer) ⌝ }
+pub fn from_shown(answer: Shown, kind: u8) -> CellAnswer
+    ensures { λ r. ⌜ r ≡ cellIn (onKind nowhere kind (shownAs answer)) ⌝ }
 {
     match answer {
-        Shown::Value(value) => shown_value(value),
-        Shown::Refused(why) => refused_cell(why),
+        Shown::Value(value) => {
+            if is_unknown(kind) {
+                return no_value(unknown_kind());
+            }
+            shown_value(value)
+        }
+        Shown::Refused(why) => no_value(told(why)),
     }
 }

@@ -1,4 +1,7 @@
+use lib.IntN.{ℤ}
+use Rattle.common.specs.Answers.{Answer}
 use Rattle.msi_forms.specs.Pools.{referenceIn}
+use Rattle.msi_forms.specs.Columns.{onColumn}
 use Rattle.column.specs.Columns.{bitfieldAnswer}
 use mathlib.Core.Path.{ap, _∙_}
 use borrow.Author.Needs.{needs}
@@ -6,7 +9,9 @@ use Rattle.msi.proofs.columns.strandroost_column_bitfield.Statement.{st
 use Rattle.msi.proofs.columns.strandroost_column_bitfield.Tie as tie
 
 returns : tie.Need-returns
-returns c = c .from-bits .ensures ∙ ap referenceIn (c .before .bitfield .ensures ∙ ap bitfieldAnswer (c .before .before .column-in .ensures))
+returns c =
+    let p = c .before .before .before .args .column in
+    c .from-bits .ensures ∙ ap (λ (a : Answer ℤ). referenceIn (onColumn p a)) (c .before .bitfield .ensures ∙ ap bitfieldAnswer (c .before .before .column-in .ensures))
 
 pub strandroost-column-bitfield-spec : {M : Type 1} → statement M
 strandroost-column-bitfield-spec =

@@ -1,5 +1,9 @@
 use Rattle.msi_forms.specs.Values.{valueIn}
+use mathlib.Core.Bool.{Bool}
+use Rattle.common.specs.Answers.{Answer, column}
 use Rattle.msi_forms.specs.Answers.{flagIn}
+use Rattle.msi_forms.specs.Columns.{onColumn}
+use Rattle.msi_forms.specs.Unknown.{onKind}
 use Rattle.column.specs.declared.column.Column.{Column}
 use Rattle.column.specs.Check.{checkAnswer}
 use Rattle.value.specs.declared.ValueRef.{ValueRef}
@@ -18,7 +22,7 @@ returns c =
     let number-fits : SFits w32 (c .before .before .before .before .before .args .number) = search needs in
     let number-back : toZ w32 (ofZ w32 (c .before .before .before .before .before .args .number)) ≡ c .before .before .before .before .before .args .number = toZ-ofZ w32 (c .before .before .before .before .before .args .number) number-fits in
     let s = c .before .before .before .before .before .args in
-    c .from-check .ensures ∙ ap flagIn (c .before .is-valid-value .ensures ∙ ap₂ (λ (x : Column) (v : ValueRef). checkAnswer x (kindOf v) (numberOf v) (now (s .text)))
+    c .from-check .ensures ∙ ap (λ (a : Answer Bool). flagIn (onKind (column 0) (s .kind) (onColumn (s .column) a))) (c .before .is-valid-value .ensures ∙ ap₂ (λ (x : Column) (v : ValueRef). checkAnswer x (kindOf v) (numberOf v) (now (s .text)))
     (c .before .before .before .column-in .ensures) (c .before .before .value-in .ensures ∙ ap (valueIn (s .kind)) number-back))
 
 pub strandroost-is-valid-value-spec : {M : Type 1} → statement M

@@ -1,11 +1,16 @@
 use mathlib.Core.Path.{ap, _∙_}
+use Prim.Native.Nat.{ℕ}
+use Rattle.common.specs.Answers.{Answer}
 use Rattle.msi_forms.specs.Answers.{countIn}
+use Rattle.msi_forms.specs.Tables.{onTable}
 use borrow.Author.Needs.{needs}
 use Rattle.msi.proofs.tables.strandroost_num_rows.Statement.{statement}
 use Rattle.msi.proofs.tables.strandroost_num_rows.Tie as tie
 
 returns : tie.Need-returns
-returns c = c .from-rows .ensures ∙ ap countIn (rw (c .before .before .table-in .ensures) at (c .before .num-rows .ensures))
+returns c =
+    let t = c .before .before .before .before .args .table in
+    c .from-rows .ensures ∙ ap (λ (a : Answer ℕ). countIn (onTable t a)) (rw (c .before .before .table-in .ensures) at (c .before .num-rows .ensures))
 
 pub strandroost-num-rows-spec : {M : Type 1} → statement M
 strandroost-num-rows-spec =

@@ -1,11 +1,16 @@
 use mathlib.Core.Path.{ap, _∙_}
-use Rattle.msi_forms.specs.Tables.{cellIn}
+use Prim.Native.Nat.{ℕ}
+use lib.IntN.{ℤ}
+use Rattle.common.specs.Answers.{Answer}
+use Rattle.msi_forms.specs.Tables.{onTable, cellIn}
 use borrow.Author.Needs.{needs}
 use Rattle.msi.proofs.tables.strandroost_read_cell.Statement.{statement}
 use Rattle.msi.proofs.tables.strandroost_read_cell.Tie as tie
 
 returns : tie.Need-returns
-returns c = c .from-cell .ensures ∙ ap cellIn (rw (c .before .before .table-in .ensures) at (c .before .read-cell .ensures))
+returns c =
+    let t = c .before .before .before .before .args .table in
+    c .from-cell .ensures ∙ ap (λ (a : Answer (ℕ × ℤ)). cellIn (onTable t a)) (rw (c .before .before .table-in .ensures) at (c .before .read-cell .ensures))
 
 pub strandroost-read-cell-spec : {M : Type 1} → statement M
 strandroost-read-cell-spec =

@@ -7,9 +7,10 @@ use denote.Ref.{now}
 use Rattle.stringpool.specs.Pool.{rooms}
 use Rattle.stringpool.specs.declared.pool.StringPool.{StringPool}
 use Rattle.pool_values.specs.declared.Value.{Value}
-use Rattle.pool_values.specs.Pooled.{valueKind, valueNumber, createOutcome}
+use Rattle.pool_values.specs.Pooled.{valueKind, valueNumber, createAnswer, createOutcome}
+use Rattle.msi_forms.specs.Pools.{stateIn}
 use Rattle.msi_forms.specs.Values.{plainIn, createdIn}
-use Rattle.msi.proofs.Handed.{hands}
+use Rattle.msi.proofs.UnknownKinds.{hands-kind, create-kept}
 use borrow.Author.Needs.{needs}
 use Rattle.msi.proofs.values.strandroost_create.Statement.{statement}
 use Rattle.msi.proofs.values.strandroost_create.Tie as tie
@@ -22,7 +23,8 @@ returns c =
     let z-back : toZ w32 (ofZ w32 z) ≡ z = toZ-ofZ w32 z z-fits in
     let w = rooms (now (s .lengths)) (now (s .counts)) (now (s .text)) in
     let v = c .before .before .before .before .before .before .before .before .before .before .before .plain-in .ensures ∙ ap (plainIn (s .kind)) z-back in
-    hands createdIn (c .from-created .ensures)
+    let p = stateIn (s .pool) in
+    hands-kind createdIn (s .kind) w (createAnswer (valueKind (plainIn (s .kind) z)) (valueNumber (plainIn (s .kind) z)) (now (s .new)) p w) (create-kept (s .kind) z (now (s .new)) p w) (c .from-created .ensures)
     (c .before .before .before .before .before .before .before .create .ensures ∙ ap₂ (λ (x : Value) (p : StringPool). createOutcome (valueKind x) (valueNumber x) (now (s .new)) p w) v (c .before .before .before .before .before .before .before .before .before .before .before .before .state .ensures))
 
 pub strandroost-create-spec : {M : Type 1} → statement M

@@ -6,12 +6,12 @@ use mir.ValLaws.{toZ-ofZ}
 use denote.Ref.{now}
 use Rattle.stringpool.specs.Pool.{rooms}
 use Rattle.stringpool.specs.declared.pool.StringPool.{StringPool}
-use Rattle.msi_forms.specs.Pools.{poolIn}
+use Rattle.msi_forms.specs.Pools.{stateIn, poolIn}
 use Rattle.value.specs.declared.ValueRef.{ValueRef}
 use Rattle.value.specs.Kinds.{kindOf, numberOf}
-use Rattle.pool_values.specs.Pooled.{removeOutcome}
+use Rattle.pool_values.specs.Pooled.{removeAnswer, removeOutcome}
 use Rattle.msi_forms.specs.Values.{valueIn}
-use Rattle.msi.proofs.Handed.{hands}
+use Rattle.msi.proofs.UnknownKinds.{hands-kind, remove-kept}
 use borrow.Author.Needs.{needs}
 use Rattle.msi.proofs.values.strandroost_remove.Statement.{statement}
 use Rattle.msi.proofs.values.strandroost_remove.Tie as tie
@@ -24,7 +24,8 @@ returns c =
     let z-back : toZ w32 (ofZ w32 z) ≡ z = toZ-ofZ w32 z z-fits in
     let w = rooms (now (s .lengths)) (now (s .counts)) (now (s .text)) in
     let v = c .before .before .before .before .before .before .before .before .before .before .before .value-in .ensures ∙ ap (valueIn (s .kind)) z-back in
-    hands poolIn (c .from-dropped .ensures)
+    let p = stateIn (s .pool) in
+    hands-kind poolIn (s .kind) w (removeAnswer (kindOf (valueIn (s .kind) z)) (numberOf (valueIn (s .kind) z)) p w) (remove-kept (s .kind) z p w) (c .from-removed .ensures)
     (c .before .before .before .before .before .before .before .remove .ensures ∙ ap₂ (λ (x : ValueRef) (p : StringPool). removeOutcome (kindOf x) (numberOf x) p w) v (c .before .before .before .before .before .before .before .before .before .before .before .before .state .ensures))
 
 pub strandroost-remove-spec : {M : Type 1} → statement M

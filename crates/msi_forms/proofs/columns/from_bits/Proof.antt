@@ -15,4 +15,10 @@ returns c =
 pub from-bits-spec : {M : Type 1} → statement M
 from-bits-spec =
     tie.close
-    (tie.spec (λ c. search needs) (λ c κs. search needs) (λ c. search needs) (λ c κs. search needs) returns (λ c. simp (c .told .ensures, c .before .before .answer2 .given .1)))
+    (tie.spec
+    (λ c. search needs)
+    (λ c κs. search needs)
+    (λ c. search needs)
+    (λ c κs. search needs)
+    returns
+    (λ c. simp (c .told-of .ensures, c .before .before .answer2 .given .1)))

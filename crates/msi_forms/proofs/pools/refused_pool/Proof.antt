@@ -2,5 +2,13 @@ use borrow.Author.Needs.{needs}
 use Rattle.msi_forms.proofs.pools.refused_pool.Statement.{statement}
 use Rattle.msi_forms.proofs.pools.refused_pool.Tie as tie
 
+returns : tie.Need-returns
+returns c = simp (c .no-pool .ensures, c .before .told .ensures)
+
 pub refused-pool-spec : {M : Type 1} → statement M
-refused-pool-spec = tie.close (tie.spec (λ c κs. search needs) (λ c. simp (c .told .ensures)))
+refused-pool-spec =
+    tie.close
+    (tie.spec
+    (λ c κs. search needs)
+    (λ c κs. search needs)
+    returns)

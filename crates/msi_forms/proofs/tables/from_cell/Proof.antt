@@ -10,5 +10,6 @@ from-cell-spec =
     (λ c κs. search needs)
     (λ c. search needs)
     (λ c κs. search needs)
+    (λ c κs. search needs)
     (λ c. simp (c .given-cell .ensures, c .before .before .answer .given .1))
-    (λ c. simp (c .refused-cell .ensures, c .before .before .answer2 .given .1)))
+    (λ c. simp (c .no-value .ensures, c .before .told-in .ensures, c .before .before .before .answer2 .given .1)))

@@ -11,4 +11,4 @@ from-rows-spec =
     (λ c. search needs)
     (λ c κs. search needs)
     (λ c. simp (c .none .ensures, c .before .before .answer .given .1))
-    (λ c. simp (c .refused-count .ensures, c .before .before .answer2 .given .1)))
+    (λ c. simp (c .told-in .ensures, c .before .before .answer2 .given .1)))

@@ -16,4 +16,4 @@ from-step-spec =
     (λ c κs. search needs)
     (λ c. simp (c .another .ensures, c .before .before .cell .given .1))
     (λ c. simp (c .no-cell .ensures, c .before .none .ensures, c .before .before .enum-told .given .1))
-    (λ c. simp (c .no-cell2 .ensures, c .before .told .ensures, c .before .before .before .cell2 .given .1)))
+    (λ c. simp (c .no-cell2 .ensures, c .before .told-in .ensures, c .before .before .before .cell2 .given .1)))

@@ -1,0 +1,23 @@
+-- "16: kind of cell does not suit the column, or is unknown". C hands kinds and types over as numbers, and 0 to 3 are known: Null, Int,
+-- Str and Binary; Int16, Int32, Str and Binary.
+use Prim.Native.Nat.{ℕ}
+use mathlib.Core.Bool.{Bool}
+use Rattle.common.specs.Choice.{if_then_else_, _<?_}
+use Rattle.common.specs.Answers.{Place, nowhere, column, cell, Answer, gives, refused, onGiven}
+
+abbrev pub unknown : ℕ → Bool
+unknown number = 3 <? number
+
+-- the answer to a value of this kind: one of an unknown kind is refused where a Binary would not be, so 16 comes after 22 and 24
+abbrev pub onKind : {A : Type 0} → Place → ℕ → Answer A → Answer A
+onKind at kind a = if unknown kind then onGiven a (λ x. refused 16 at) else a
+
+-- the number of a refusal on columns, of which the one at c was handed over with the type `types c`: a bad column of an unknown type is 16
+abbrev pub numberAt : (ℕ → ℕ) → ℕ → Place → ℕ
+numberAt types n nowhere = n
+numberAt types n (column c) = if unknown (types c) then 16 else n
+numberAt types n (cell r c) = n
+
+abbrev pub onTypes : {A : Type 0} → (ℕ → ℕ) → Answer A → Answer A
+onTypes types (gives a) = gives a
+onTypes types (refused n at) = refused (numberAt types n at) at

@@ -229,6 +229,7 @@ impl CrateSide {
             Value::Int(number) => CrateValue::Int(number),
             Value::Text(text) => CrateValue::Str(self.text_in(&text)?),
             Value::Binary => CrateValue::Binary,
+            Value::Handed(..) => return Err(Stop::Outside),
         })
     }
 
@@ -308,6 +309,7 @@ impl CrateSide {
             Made::Type(Type::Binary) => Ok(builder.binary()),
             Made::Type(Type::Str(max)) if max > 255 && !self.raw => Err(Stop::Outside),
             Made::Type(Type::Str(max)) => Ok(builder.string(max as usize)),
+            Made::Type(Type::Handed(_)) => Err(Stop::Outside),
         }
     }
 

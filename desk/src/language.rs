@@ -17,6 +17,8 @@ pub enum Value {
     Int(i32),
     Text(Vec<u8>),
     Binary,
+    /// A kind and a number as they are handed over, with no text beside them.
+    Handed(u8, i32),
 }
 
 #[derive(Clone, Copy, Debug, PartialEq)]
@@ -25,6 +27,8 @@ pub enum Type {
     Int32,
     Str(u32),
     Binary,
+    /// A type's number as it is handed over, whatever it means.
+    Handed(u32),
 }
 
 #[derive(Clone, Copy, Debug)]
@@ -163,9 +167,9 @@ fn room_of(word: &str) -> Option<Option<usize>> {
     Some(Some(word.parse().ok()?))
 }
 
-fn handed_of(rest: &str) -> Option<Cell> {
+fn handed_of(rest: &str) -> Option<(u8, i32)> {
     let (kind, number) = rest.split_once(':')?;
-    Some(Cell::Handed(kind.parse().ok()?, number.parse().ok()?))
+    Some((kind.parse().ok()?, number.parse().ok()?))
 }
 
 fn cell_of(word: &str) -> Option<Cell> {
@@ -175,7 +179,7 @@ fn cell_of(word: &str) -> Option<Cell> {
         b'b' if rest.is_empty() => Some(Cell::Binary),
         b'i' => Some(Cell::Int(rest.parse().ok()?)),
         b's' => Some(Cell::Str(rest.parse().ok()?)),
-        b'k' => handed_of(rest),
+        b'k' => handed_of(rest).map(|(kind, number)| Cell::Handed(kind, number)),
         _ => None,
     }
 }
@@ -187,6 +191,7 @@ fn value_of(word: &str) -> Option<Value> {
         b'b' if rest.is_empty() => Some(Value::Binary),
         b'i' => Some(Value::Int(rest.parse().ok()?)),
         b't' => Some(Value::Text(bytes_of(rest)?)),
+        b'k' => handed_of(rest).map(|(kind, number)| Value::Handed(kind, number)),
         _ => None,
     }
 }
@@ -199,6 +204,7 @@ fn made_of(word: &str) -> Option<Made> {
         "i2" => Type::Int16,
         "i4" => Type::Int32,
         "b" => Type::Binary,
+        _ if word.starts_with('x') => Type::Handed(word[1..].parse().ok()?),
         _ => Type::Str(word.strip_prefix('s')?.parse().ok()?),
     }))
 }
@@ -316,6 +322,13 @@ fn put_number(number: i64, out: &mut String) {
     let _ = write!(out, "{number}");
 }
 
+fn put_handed(kind: u8, number: i32, out: &mut String) {
+    out.push('k');
+    put_number(kind.into(), out);
+    out.push(':');
+    put_number(number.into(), out);
+}
+
 pub fn put_cell(cell: &Cell, out: &mut String) {
     match *cell {
         Cell::Null => out.push('n'),
@@ -328,12 +341,7 @@ pub fn put_cell(cell: &Cell, out: &mut String) {
             put_number(number.into(), out);
         }
         Cell::Binary => out.push('b'),
-        Cell::Handed(kind, number) => {
-            out.push('k');
-            put_number(kind.into(), out);
-            out.push(':');
-            put_number(number.into(), out);
-        }
+        Cell::Handed(kind, number) => put_handed(kind, number, out),
     }
 }
 
@@ -349,6 +357,7 @@ fn put_value(value: &Value, out: &mut String) {
             put_bytes(text, out);
         }
         Value::Binary => out.push('b'),
+        Value::Handed(kind, number) => put_handed(*kind, *number, out),
     }
 }
 
@@ -361,6 +370,10 @@ fn put_type(coltype: Type, out: &mut String) {
             put_number(max.into(), out);
         }
         Type::Binary => out.push('b'),
+        Type::Handed(number) => {
+            out.push('x');
+            put_number(number.into(), out);
+        }
     }
 }
 

@@ -57,6 +57,7 @@ fn parts(spec: &Spec, coltype: Type) -> ColumnParts {
         Type::Int32 => (1, 0),
         Type::Str(max) => (2, max),
         Type::Binary => (3, 0),
+        Type::Handed(number) => (number, 0),
     };
     ColumnParts {
         coltype,
@@ -80,7 +81,8 @@ fn type_out(column: &ColumnParts) -> Type {
         0 => Type::Int16,
         1 => Type::Int32,
         2 => Type::Str(column.max_len),
-        _ => Type::Binary,
+        3 => Type::Binary,
+        number => Type::Handed(number),
     }
 }
 
@@ -132,6 +134,7 @@ fn value_in(value: &Value) -> (KindAndNumber, &[u8]) {
         Value::Int(number) => (1, *number, &[]),
         Value::Text(text) => (2, 0, text),
         Value::Binary => (3, 0, &[]),
+        Value::Handed(kind, number) => (*kind, *number, &[]),
     };
     (KindAndNumber { kind, number }, text)
 }
@@ -350,7 +353,8 @@ impl PortSide {
                 self.out = out;
                 Value::Text(self.out[..answer?].to_vec())
             }
-            _ => Value::Binary,
+            3 => Value::Binary,
+            kind => Value::Handed(kind, shown.number),
         })
     }
 

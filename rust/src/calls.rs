@@ -240,7 +240,7 @@ pub struct RoomsMut<'a> {
     pub text: &'a mut [u8],
 }
 
-/// A cell by its kind (0 Null, 1 Int, 2 Str, 3 Binary) and number.
+/// A cell by its kind (0 Null, 1 Int, 2 Str, 3 Binary; any other is unknown, which every call refuses with 16) and number.
 #[derive(Clone, Copy, Debug, PartialEq, Eq)]
 pub struct KindAndNumber {
     /// The kind.
@@ -252,7 +252,7 @@ pub struct KindAndNumber {
 /// A column, or one being made.
 #[derive(Clone, Copy, Debug, PartialEq, Eq)]
 pub struct ColumnParts {
-    /// 0 Int16, 1 Int32, 2 Str, 3 Binary.
+    /// 0 Int16, 1 Int32, 2 Str, 3 Binary; any other is unknown, which every call on a column or a table refuses with 16.
     pub coltype: u32,
     /// The largest length of a Str, 0 for any.
     pub max_len: u32,
@@ -460,7 +460,7 @@ pub fn write_data(state: State, rooms: Rooms<'_>, out: &mut [u8]) -> Result<usiz
 }
 
 /// Creates a value: a text (kind 2) is taken into the pool, any other leaves it. Refused as `incref`; a value that is no text
-/// with 22, 24.
+/// with 22, 24, and 16 for an unknown kind.
 pub fn create(value: KindAndNumber, new: &[u8], state: State, rooms: RoomsMut<'_>) -> Result<(KindAndNumber, State)> {
     let answer = unsafe {
         c::strandroost_create(
@@ -473,7 +473,7 @@ pub fn create(value: KindAndNumber, new: &[u8], state: State, rooms: RoomsMut<'_
 }
 
 /// Removes a cell's value: a reference is dropped, any other leaves the pool. Refused as `decref`; a cell that is no reference
-/// with 22, 24.
+/// with 22, 24, and 16 for an unknown kind.
 pub fn remove(cell: KindAndNumber, state: State, rooms: RoomsMut<'_>) -> Result<State> {
     pooled(unsafe {
         c::strandroost_remove(
@@ -483,7 +483,7 @@ pub fn remove(cell: KindAndNumber, state: State, rooms: RoomsMut<'_>) -> Result<
     })
 }
 
-/// The value that a cell stands for; the number of a text is 0, and [`to_text`] copies it. Refused with 22, 24, 8.
+/// The value that a cell stands for; the number of a text is 0, and [`to_text`] copies it. Refused with 22, 24, 16 or 8.
 pub fn to_value(cell: KindAndNumber, state: State, rooms: Rooms<'_>) -> Result<KindAndNumber> {
     let answer = unsafe {
         c::strandroost_to_value(
@@ -495,7 +495,7 @@ pub fn to_value(cell: KindAndNumber, state: State, rooms: Rooms<'_>) -> Result<K
 }
 
 /// Copies the text of a cell to the front of `out`, none of a cell that is no reference: how many bytes that are. Refused with
-/// 22, 24, 8, 7.
+/// 22, 24, 16 or 8, 7.
 pub fn to_text(cell: KindAndNumber, state: State, rooms: Rooms<'_>, out: &mut [u8]) -> Result<usize> {
     counted(unsafe {
         c::strandroost_to_text(
@@ -556,13 +556,13 @@ pub fn column_from_bitfield(builder: ColumnParts, bits: i32) -> Result<ColumnPar
     given(answer.refused, ColumnParts::from_c(answer.column))
 }
 
-/// The bits of a column. Refused with 19.
+/// The bits of a column. Refused with 19 or 16.
 pub fn column_bitfield(column: ColumnParts) -> Result<i32> {
     let answer = unsafe { c::strandroost_column_bitfield(column.to_c()) };
     given(answer.refused, answer.value)
 }
 
-/// Whether a value suits a column; a text stands beside a cell of kind 2. Refused with 22, 19.
+/// Whether a value suits a column; a text stands beside a cell of kind 2. Refused with 22, the column's 19 or 16, the value's 16.
 pub fn is_valid_value(column: ColumnParts, cell: KindAndNumber, text: &[u8]) -> Result<bool> {
     let answer =
         unsafe { c::strandroost_is_valid_value(column.to_c(), cell.kind, cell.number, text.as_ptr(), text.len()) };
@@ -579,7 +579,7 @@ impl Layout {
         Layout(c::Table { columns: places, count: columns.len(), long_string_refs })
     }
 
-    /// The layout of columns. Refused with 20, 19.
+    /// The layout of columns. Refused with 20, 19 or 16.
     pub fn new(columns: &[ColumnParts], long_string_refs: bool) -> Result<Layout> {
         let answer = unsafe { c::strandroost_table_new(Layout::by_hand(columns, long_string_refs).0) };
         given(answer.refused, Layout(answer.table))
@@ -607,18 +607,18 @@ impl Layout {
     }
 }
 
-/// The complete rows of a table stream. Refused with 22, 20, 19, 14.
+/// The complete rows of a table stream. Refused with 22, 20, 19 or 16, 14.
 pub fn num_rows(layout: &Layout, stream: &[u8]) -> Result<usize> {
     counted(unsafe { c::strandroost_num_rows(layout.0, stream.as_ptr(), stream.len()) })
 }
 
-/// The cell at a place. Refused with 22, 20, 19, 14, 15.
+/// The cell at a place. Refused with 22, 20, 19 or 16, 14, 15.
 pub fn read_cell(layout: &Layout, stream: &[u8], row: usize, column: usize) -> Result<KindAndNumber> {
     let answer = unsafe { c::strandroost_read_cell(layout.0, stream.as_ptr(), stream.len(), row, column) };
     given(answer.refused, KindAndNumber { kind: answer.kind, number: answer.number })
 }
 
-/// The cells of a table stream, row by row: how many there are. Refused with 22, 20, 19, 14, 7.
+/// The cells of a table stream, row by row: how many there are. Refused with 22, 20, 19 or 16, 14, 7.
 pub fn read_rows(layout: &Layout, stream: &[u8], kinds: &mut [u8], numbers: &mut [i32]) -> Result<usize> {
     counted(unsafe {
         c::strandroost_read_rows(
@@ -627,7 +627,7 @@ pub fn read_rows(layout: &Layout, stream: &[u8], kinds: &mut [u8], numbers: &mut
     })
 }
 
-/// Writes cells handed over row by row: how many bytes that are. Refused with 20, 19, 14, 23, the cells' 16, 17, 8, 18, then 7.
+/// Writes cells handed over row by row: how many bytes that are. Refused with 20, 19 or 16, 14, 23, the cells' 16, 17, 8, 18, then 7.
 pub fn write_rows(layout: &Layout, rows: usize, kinds: &[u8], numbers: &[i32], out: &mut [u8]) -> Result<usize> {
     counted(unsafe {
         c::strandroost_write_rows(
@@ -636,8 +636,8 @@ pub fn write_rows(layout: &Layout, rows: usize, kinds: &[u8], numbers: &[i32], o
     })
 }
 
-/// A step of the row reader from the place `at`, 0 at first: a cell moves it by one, the end leaves it. Refused with 22, 20, 19,
-/// 14.
+/// A step of the row reader from the place `at`, 0 at first: a cell moves it by one, the end leaves it. Refused with 22, 20, 19
+/// or 16, 14.
 pub fn rows_next(layout: &Layout, stream: &[u8], at: usize) -> Result<Step> {
     let answer = unsafe { c::strandroost_rows_next(layout.0, stream.as_ptr(), stream.len(), at) };
     let cell = answer.found.then_some(KindAndNumber { kind: answer.kind, number: answer.number });

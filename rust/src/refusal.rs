@@ -69,7 +69,7 @@ impl Refusal {
             13 => "an integer column has a size other than 1, 2 or 4",
             14 => "the table has more than 65,536 rows",
             15 => "the row or the column lies outside the table",
-            16 => "the cell's kind does not suit its column",
+            16 => "the kind does not suit the column, or is unknown",
             17 => "the integer does not fit its column",
             18 => "the reference is above 65,535, and the table has short ones",
             19 => "a text column has a maximum above 255",

@@ -1,6 +1,6 @@
 //! The sizes of document 01 that need rooms of 33 to 268 megabytes: refusals 3, 12 and 22 at their bounds, and one below.
 
-use strandroost::calls::{self, Rooms, RoomsMut, State};
+use strandroost::calls::{self, KindAndNumber, Rooms, RoomsMut, State};
 use strandroost::Table;
 
 const MAX_ENTRIES: usize = 16_777_215;
@@ -75,6 +75,11 @@ fn streams_texts_and_text_rooms_above_the_size_are_22() {
     assert_eq!(number(calls::load(most, most, small.lend())), 2);
     assert_eq!(number(calls::incref(state(0, false), small.lend(), &over)), 22);
     assert_eq!(number(calls::incref(state(0, false), small.lend(), most)), 6);
+    let unknown = KindAndNumber { kind: 4, number: 0 };
+    assert_eq!(number(calls::create(unknown, &over, state(0, false), small.lend())), 22);
+    assert_eq!(number(calls::create(unknown, most, state(0, false), small.lend())), 16);
+    assert_eq!(number(calls::is_valid_value(calls::column_build(), unknown, &over)), 22);
+    assert_eq!(number(calls::is_valid_value(calls::column_build(), unknown, most)), 16);
     assert_eq!(number(table.num_rows(&over)), 22);
     assert_eq!(number(table.num_rows(most)), 14);
     assert_eq!((small.lengths[0], small.counts[0], small.text[0]), (0, 0, 0));
@@ -83,6 +88,8 @@ fn streams_texts_and_text_rooms_above_the_size_are_22() {
     assert_eq!(number(calls::load(&[0; 4], &[], room.lend())), 22);
     assert_eq!(number(calls::incref(state(0, false), room.lend(), most)), 22);
     assert_eq!(number(calls::get(state(0, false), room.rooms(), 1, &mut [])), 22);
+    assert_eq!(number(calls::remove(unknown, state(0, false), room.lend())), 22);
+    assert_eq!(number(calls::to_text(unknown, state(0, false), room.rooms(), &mut [])), 22);
     assert_eq!(number(calls::write_data(state(0, false), room.rooms(), &mut [])), 22);
     room.text.truncate(MAX_BYTES);
     assert_eq!(calls::incref(state(0, false), room.lend(), most).unwrap(), (1, state(1, false)));

@@ -1,10 +1,19 @@
 //! The proved calls as they are: rooms and outputs are lent, nothing is allocated, and a refusal leaves every lent byte as it was.
 //! The types beside this module own their rooms and are easier to use.
+//!
+//! # Why the calls are safe
+//!
+//! A slice is handed over as its first element and its length, a struct by value and laid out as in the header, which is asserted
+//! when this is compiled. The archive's functions are proved, for every input, to return, to read and to write within those lengths
+//! alone, and to keep nothing. The three rooms of a pool are borrowed apart, so none is seen twice.
+#![allow(unsafe_code)]
 
 use crate::refusal::{Place, Refusal, Result};
 
 mod c {
     //! What the archive's header, crates/msi/strandroost.h, declares.
+    use std::mem::{offset_of, size_of};
+
     #[repr(C)]
     pub struct Refused {
         pub number: u32,
@@ -115,6 +124,32 @@ mod c {
         pub kind: u8,
         pub number: i32,
     }
+
+    /// A struct, its name in the header, its size, and where each field begins. `desk/package` holds the header to the same lines.
+    macro_rules! laid_out {
+        ($name:ident, $header:literal, $size:literal, $($field:ident $at:literal),*) => {
+            const _: () = assert!(size_of::<$name>() == $size $(&& offset_of!($name, $field) == $at)*, $header);
+        };
+    }
+
+    laid_out!(Refused, "strandroost_refused", 24, number 0, place 4, row 8, column 16);
+    laid_out!(Count, "strandroost_count", 32, refused 0, value 24);
+    laid_out!(Name, "strandroost_name", 40, refused 0, units 24, is_table 32);
+    laid_out!(Flag, "strandroost_flag", 32, refused 0, value 24);
+    laid_out!(Reference, "strandroost_reference", 32, refused 0, value 24);
+    laid_out!(Pool, "strandroost_pool", 16, num_strings 0, codepage 8, long_string_refs 12);
+    laid_out!(PoolAnswer, "strandroost_pool_answer", 40, refused 0, pool 24);
+    laid_out!(TakeAnswer, "strandroost_take_answer", 48, refused 0, pool 24, reference 40);
+    laid_out!(CellAnswer, "strandroost_cell_answer", 32, refused 0, kind 24, number 28);
+    laid_out!(CreateAnswer, "strandroost_create_answer", 48, refused 0, pool 24, kind 40, number 44);
+    laid_out!(
+        ColumnParts, "strandroost_column", 20, coltype 0, max_len 4, is_localizable 8, is_nullable 9, is_primary_key 10,
+        has_range 11, min 12, max 16
+    );
+    laid_out!(ColumnAnswer, "strandroost_column_answer", 48, refused 0, column 24);
+    laid_out!(Table, "strandroost_table", 1296, columns 0, count 1280, long_string_refs 1288);
+    laid_out!(TableAnswer, "strandroost_table_answer", 1320, refused 0, table 24);
+    laid_out!(StepAnswer, "strandroost_step_answer", 40, refused 0, at 24, found 32, kind 33, number 36);
 
     #[link(name = "msi", kind = "static")]
     extern "C" {
@@ -240,10 +275,10 @@ pub struct RoomsMut<'a> {
     pub text: &'a mut [u8],
 }
 
-/// A cell by its kind (0 Null, 1 Int, 2 Str, 3 Binary; any other is unknown, which every call refuses with 16) and number.
+/// A cell by its kind and number.
 #[derive(Clone, Copy, Debug, PartialEq, Eq)]
 pub struct KindAndNumber {
-    /// The kind.
+    /// 0 Null, 1 Int, 2 Str, 3 Binary. Any other is unknown, and 16 wherever a cell is handed over.
     pub kind: u8,
     /// The number; 0 for Null and Binary on reading, ignored there on writing.
     pub number: i32,
@@ -252,7 +287,7 @@ pub struct KindAndNumber {
 /// A column, or one being made.
 #[derive(Clone, Copy, Debug, PartialEq, Eq)]
 pub struct ColumnParts {
-    /// 0 Int16, 1 Int32, 2 Str, 3 Binary; any other is unknown, which every call on a column or a table refuses with 16.
+    /// 0 Int16, 1 Int32, 2 Str, 3 Binary. Any other is unknown, and 16 wherever the column is used.
     pub coltype: u32,
     /// The largest length of a Str, 0 for any.
     pub max_len: u32,
@@ -336,39 +371,42 @@ impl ColumnParts {
     }
 }
 
-// Each call below hands over slices as their first element and length. The archive's functions are proved to read and write
-// within those lengths alone, and to return, for every input: that is what makes the calls safe.
-
 /// Encodes a name into the front of `out`: how many units that are. Refused with 22, 7.
 pub fn encode(name: &[u16], is_table: bool, out: &mut [u16]) -> Result<usize> {
+    // SAFETY: the call stays within these slices, as above.
     counted(unsafe { c::strandroost_encode(name.as_ptr(), name.len(), is_table, out.as_mut_ptr(), out.len()) })
 }
 
 /// Decodes a stored name into the front of `out`: how many units that are, and whether it is a table's. Refused with 22, 7.
 pub fn decode(stored: &[u16], out: &mut [u16]) -> Result<(usize, bool)> {
+    // SAFETY: the call stays within these slices, as above.
     let answer = unsafe { c::strandroost_decode(stored.as_ptr(), stored.len(), out.as_mut_ptr(), out.len()) };
     given(answer.refused, (answer.units, answer.is_table))
 }
 
 /// Whether a name works as a stream's once it is encoded. Refused with 22.
 pub fn is_valid(name: &[u16], is_table: bool) -> Result<bool> {
+    // SAFETY: the call stays within these slices, as above.
     let answer = unsafe { c::strandroost_is_valid(name.as_ptr(), name.len(), is_table) };
     given(answer.refused, answer.value)
 }
 
 /// The reference with a number. Refused with 8.
 pub fn string_ref(number: i32) -> Result<i32> {
+    // SAFETY: values alone are handed over.
     let answer = unsafe { c::strandroost_string_ref(number) };
     given(answer.refused, answer.value)
 }
 
 /// An empty pool with short references. Refused with 21.
 pub fn new(codepage: u32) -> Result<State> {
+    // SAFETY: values alone are handed over.
     pooled(unsafe { c::strandroost_new(codepage) })
 }
 
 /// Loads a pool stream and a data stream. Refused with 22, 1, 2, 3, 4, 5, 6.
 pub fn load(pool: &[u8], data: &[u8], rooms: RoomsMut<'_>) -> Result<State> {
+    // SAFETY: the call stays within these slices, as above.
     pooled(unsafe {
         c::strandroost_load(
             pool.as_ptr(), pool.len(), data.as_ptr(), data.len(), rooms.lengths.as_mut_ptr(), rooms.lengths.len(),
@@ -379,6 +417,7 @@ pub fn load(pool: &[u8], data: &[u8], rooms: RoomsMut<'_>) -> Result<State> {
 
 /// Sets the code page. Refused with 22, 24, 21.
 pub fn set_codepage(state: State, rooms: Rooms<'_>, codepage: u32) -> Result<State> {
+    // SAFETY: the call stays within these slices, as above.
     pooled(unsafe {
         c::strandroost_set_codepage(
             state.to_c(), rooms.lengths.as_ptr(), rooms.lengths.len(), rooms.counts.as_ptr(), rooms.counts.len(),
@@ -389,6 +428,7 @@ pub fn set_codepage(state: State, rooms: Rooms<'_>, codepage: u32) -> Result<Sta
 
 /// How many references count on a number. Refused with 22, 24, 8.
 pub fn refcount(state: State, rooms: Rooms<'_>, number: i32) -> Result<usize> {
+    // SAFETY: the call stays within these slices, as above.
     counted(unsafe {
         c::strandroost_refcount(
             state.to_c(), rooms.lengths.as_ptr(), rooms.lengths.len(), rooms.counts.as_ptr(), rooms.counts.len(),
@@ -399,6 +439,7 @@ pub fn refcount(state: State, rooms: Rooms<'_>, number: i32) -> Result<usize> {
 
 /// Whether a reference can be shown. Refused with 22, 24, 8.
 pub fn get_refusal(state: State, rooms: Rooms<'_>, number: i32) -> Result<()> {
+    // SAFETY: the call stays within these slices, as above.
     let refused = unsafe {
         c::strandroost_get_refusal(
             state.to_c(), rooms.lengths.as_ptr(), rooms.lengths.len(), rooms.counts.as_ptr(), rooms.counts.len(),
@@ -410,6 +451,7 @@ pub fn get_refusal(state: State, rooms: Rooms<'_>, number: i32) -> Result<()> {
 
 /// Copies the text of a reference to the front of `out`: how many bytes that are. Refused with 22, 24, 8, 7.
 pub fn get(state: State, rooms: Rooms<'_>, number: i32, out: &mut [u8]) -> Result<usize> {
+    // SAFETY: the call stays within these slices, as above.
     counted(unsafe {
         c::strandroost_get(
             state.to_c(), rooms.lengths.as_ptr(), rooms.lengths.len(), rooms.counts.as_ptr(), rooms.counts.len(),
@@ -420,6 +462,7 @@ pub fn get(state: State, rooms: Rooms<'_>, number: i32, out: &mut [u8]) -> Resul
 
 /// One reference more on a text: its number, and the state after. Refused with 22, 24, 11, 12, 4, 6.
 pub fn incref(state: State, rooms: RoomsMut<'_>, text: &[u8]) -> Result<(i32, State)> {
+    // SAFETY: the call stays within these slices, as above.
     let answer = unsafe {
         c::strandroost_incref(
             state.to_c(), rooms.lengths.as_mut_ptr(), rooms.lengths.len(), rooms.counts.as_mut_ptr(), rooms.counts.len(),
@@ -431,6 +474,7 @@ pub fn incref(state: State, rooms: RoomsMut<'_>, text: &[u8]) -> Result<(i32, St
 
 /// One reference less on a number. Refused with 22, 24, 8, 9, 10.
 pub fn decref(state: State, rooms: RoomsMut<'_>, number: i32) -> Result<State> {
+    // SAFETY: the call stays within these slices, as above.
     pooled(unsafe {
         c::strandroost_decref(
             state.to_c(), rooms.lengths.as_mut_ptr(), rooms.lengths.len(), rooms.counts.as_mut_ptr(), rooms.counts.len(),
@@ -441,6 +485,7 @@ pub fn decref(state: State, rooms: RoomsMut<'_>, number: i32) -> Result<State> {
 
 /// Writes the pool stream to the front of `out`: how many bytes that are. Refused with 22, 24, 7.
 pub fn write_pool(state: State, rooms: Rooms<'_>, out: &mut [u8]) -> Result<usize> {
+    // SAFETY: the call stays within these slices, as above.
     counted(unsafe {
         c::strandroost_write_pool(
             state.to_c(), rooms.lengths.as_ptr(), rooms.lengths.len(), rooms.counts.as_ptr(), rooms.counts.len(),
@@ -451,6 +496,7 @@ pub fn write_pool(state: State, rooms: Rooms<'_>, out: &mut [u8]) -> Result<usiz
 
 /// Writes the data stream to the front of `out`: how many bytes that are. Refused with 22, 24, 7.
 pub fn write_data(state: State, rooms: Rooms<'_>, out: &mut [u8]) -> Result<usize> {
+    // SAFETY: the call stays within these slices, as above.
     counted(unsafe {
         c::strandroost_write_data(
             state.to_c(), rooms.lengths.as_ptr(), rooms.lengths.len(), rooms.counts.as_ptr(), rooms.counts.len(),
@@ -462,6 +508,7 @@ pub fn write_data(state: State, rooms: Rooms<'_>, out: &mut [u8]) -> Result<usiz
 /// Creates a value: a text (kind 2) is taken into the pool, any other leaves it. Refused as `incref`; a value that is no text
 /// with 22, 24, and 16 for an unknown kind.
 pub fn create(value: KindAndNumber, new: &[u8], state: State, rooms: RoomsMut<'_>) -> Result<(KindAndNumber, State)> {
+    // SAFETY: the call stays within these slices, as above.
     let answer = unsafe {
         c::strandroost_create(
             value.kind, value.number, new.as_ptr(), new.len(), state.to_c(), rooms.lengths.as_mut_ptr(),
@@ -475,6 +522,7 @@ pub fn create(value: KindAndNumber, new: &[u8], state: State, rooms: RoomsMut<'_
 /// Removes a cell's value: a reference is dropped, any other leaves the pool. Refused as `decref`; a cell that is no reference
 /// with 22, 24, and 16 for an unknown kind.
 pub fn remove(cell: KindAndNumber, state: State, rooms: RoomsMut<'_>) -> Result<State> {
+    // SAFETY: the call stays within these slices, as above.
     pooled(unsafe {
         c::strandroost_remove(
             cell.kind, cell.number, state.to_c(), rooms.lengths.as_mut_ptr(), rooms.lengths.len(),
@@ -485,6 +533,7 @@ pub fn remove(cell: KindAndNumber, state: State, rooms: RoomsMut<'_>) -> Result<
 
 /// The value that a cell stands for; the number of a text is 0, and [`to_text`] copies it. Refused with 22, 24, 16 or 8.
 pub fn to_value(cell: KindAndNumber, state: State, rooms: Rooms<'_>) -> Result<KindAndNumber> {
+    // SAFETY: the call stays within these slices, as above.
     let answer = unsafe {
         c::strandroost_to_value(
             cell.kind, cell.number, state.to_c(), rooms.lengths.as_ptr(), rooms.lengths.len(), rooms.counts.as_ptr(),
@@ -497,6 +546,7 @@ pub fn to_value(cell: KindAndNumber, state: State, rooms: Rooms<'_>) -> Result<K
 /// Copies the text of a cell to the front of `out`, none of a cell that is no reference: how many bytes that are. Refused with
 /// 22, 24, 16 or 8, 7.
 pub fn to_text(cell: KindAndNumber, state: State, rooms: Rooms<'_>, out: &mut [u8]) -> Result<usize> {
+    // SAFETY: the call stays within these slices, as above.
     counted(unsafe {
         c::strandroost_to_text(
             cell.kind, cell.number, state.to_c(), rooms.lengths.as_ptr(), rooms.lengths.len(), rooms.counts.as_ptr(),
@@ -507,63 +557,75 @@ pub fn to_text(cell: KindAndNumber, state: State, rooms: Rooms<'_>, out: &mut [u
 
 /// A column being made, without marks or range; its type does not count yet.
 pub fn column_build() -> ColumnParts {
+    // SAFETY: values alone are handed over.
     ColumnParts::from_c(unsafe { c::strandroost_column_build() })
 }
 
 /// Sets the localizable mark.
 pub fn column_localizable(builder: ColumnParts) -> ColumnParts {
+    // SAFETY: values alone are handed over.
     ColumnParts::from_c(unsafe { c::strandroost_column_localizable(builder.to_c()) })
 }
 
 /// Sets the nullable mark.
 pub fn column_nullable(builder: ColumnParts) -> ColumnParts {
+    // SAFETY: values alone are handed over.
     ColumnParts::from_c(unsafe { c::strandroost_column_nullable(builder.to_c()) })
 }
 
 /// Sets the primary key mark.
 pub fn column_primary_key(builder: ColumnParts) -> ColumnParts {
+    // SAFETY: values alone are handed over.
     ColumnParts::from_c(unsafe { c::strandroost_column_primary_key(builder.to_c()) })
 }
 
 /// Sets the least and the largest integer allowed.
 pub fn column_range(builder: ColumnParts, min: i32, max: i32) -> ColumnParts {
+    // SAFETY: values alone are handed over.
     ColumnParts::from_c(unsafe { c::strandroost_column_range(builder.to_c(), min, max) })
 }
 
 /// The column of integers of 16 bits.
 pub fn column_int16(builder: ColumnParts) -> ColumnParts {
+    // SAFETY: values alone are handed over.
     ColumnParts::from_c(unsafe { c::strandroost_column_int16(builder.to_c()) })
 }
 
 /// The column of integers of 32 bits.
 pub fn column_int32(builder: ColumnParts) -> ColumnParts {
+    // SAFETY: values alone are handed over.
     ColumnParts::from_c(unsafe { c::strandroost_column_int32(builder.to_c()) })
 }
 
 /// The column of texts of at most so many bytes, 0 for any.
 pub fn column_string(builder: ColumnParts, max_len: u32) -> ColumnParts {
+    // SAFETY: values alone are handed over.
     ColumnParts::from_c(unsafe { c::strandroost_column_string(builder.to_c(), max_len) })
 }
 
 /// The column of streams.
 pub fn column_binary(builder: ColumnParts) -> ColumnParts {
+    // SAFETY: values alone are handed over.
     ColumnParts::from_c(unsafe { c::strandroost_column_binary(builder.to_c()) })
 }
 
 /// The column that bits name; a nullable mark and a range made before survive. Refused with 13.
 pub fn column_from_bitfield(builder: ColumnParts, bits: i32) -> Result<ColumnParts> {
+    // SAFETY: values alone are handed over.
     let answer = unsafe { c::strandroost_column_from_bitfield(builder.to_c(), bits) };
     given(answer.refused, ColumnParts::from_c(answer.column))
 }
 
 /// The bits of a column. Refused with 19 or 16.
 pub fn column_bitfield(column: ColumnParts) -> Result<i32> {
+    // SAFETY: values alone are handed over.
     let answer = unsafe { c::strandroost_column_bitfield(column.to_c()) };
     given(answer.refused, answer.value)
 }
 
 /// Whether a value suits a column; a text stands beside a cell of kind 2. Refused with 22, the column's 19 or 16, the value's 16.
 pub fn is_valid_value(column: ColumnParts, cell: KindAndNumber, text: &[u8]) -> Result<bool> {
+    // SAFETY: the call stays within these slices, as above.
     let answer =
         unsafe { c::strandroost_is_valid_value(column.to_c(), cell.kind, cell.number, text.as_ptr(), text.len()) };
     given(answer.refused, answer.value)
@@ -581,12 +643,14 @@ impl Layout {
 
     /// The layout of columns. Refused with 20, 19 or 16.
     pub fn new(columns: &[ColumnParts], long_string_refs: bool) -> Result<Layout> {
+        // SAFETY: values alone are handed over.
         let answer = unsafe { c::strandroost_table_new(Layout::by_hand(columns, long_string_refs).0) };
         given(answer.refused, Layout(answer.table))
     }
 
     /// The layout of the columns that bits name. Refused with 20, 13.
     pub fn from_bitfields(bits: &[i32], long_string_refs: bool) -> Result<Layout> {
+        // SAFETY: the call stays within these slices, as above.
         let answer = unsafe { c::strandroost_table_from_bitfields(bits.as_ptr(), bits.len(), long_string_refs) };
         given(answer.refused, Layout(answer.table))
     }
@@ -609,17 +673,20 @@ impl Layout {
 
 /// The complete rows of a table stream. Refused with 22, 20, 19 or 16, 14.
 pub fn num_rows(layout: &Layout, stream: &[u8]) -> Result<usize> {
+    // SAFETY: the call stays within these slices, as above.
     counted(unsafe { c::strandroost_num_rows(layout.0, stream.as_ptr(), stream.len()) })
 }
 
 /// The cell at a place. Refused with 22, 20, 19 or 16, 14, 15.
 pub fn read_cell(layout: &Layout, stream: &[u8], row: usize, column: usize) -> Result<KindAndNumber> {
+    // SAFETY: the call stays within these slices, as above.
     let answer = unsafe { c::strandroost_read_cell(layout.0, stream.as_ptr(), stream.len(), row, column) };
     given(answer.refused, KindAndNumber { kind: answer.kind, number: answer.number })
 }
 
 /// The cells of a table stream, row by row: how many there are. Refused with 22, 20, 19 or 16, 14, 7.
 pub fn read_rows(layout: &Layout, stream: &[u8], kinds: &mut [u8], numbers: &mut [i32]) -> Result<usize> {
+    // SAFETY: the call stays within these slices, as above.
     counted(unsafe {
         c::strandroost_read_rows(
             layout.0, stream.as_ptr(), stream.len(), kinds.as_mut_ptr(), kinds.len(), numbers.as_mut_ptr(), numbers.len(),
@@ -629,6 +696,7 @@ pub fn read_rows(layout: &Layout, stream: &[u8], kinds: &mut [u8], numbers: &mut
 
 /// Writes cells handed over row by row: how many bytes that are. Refused with 20, 19 or 16, 14, 23, the cells' 16, 17, 8, 18, then 7.
 pub fn write_rows(layout: &Layout, rows: usize, kinds: &[u8], numbers: &[i32], out: &mut [u8]) -> Result<usize> {
+    // SAFETY: the call stays within these slices, as above.
     counted(unsafe {
         c::strandroost_write_rows(
             layout.0, rows, kinds.as_ptr(), kinds.len(), numbers.as_ptr(), numbers.len(), out.as_mut_ptr(), out.len(),
@@ -636,9 +704,10 @@ pub fn write_rows(layout: &Layout, rows: usize, kinds: &[u8], numbers: &[i32], o
     })
 }
 
-/// A step of the row reader from the place `at`, 0 at first: a cell moves it by one, the end leaves it. Refused with 22, 20, 19
-/// or 16, 14.
+/// A step of the row reader from the place `at`, 0 at first: a cell moves it by one, the end leaves it. Each step judges the layout
+/// anew; [`read_rows`] does so once for all cells. Refused with 22, 20, 19 or 16, 14.
 pub fn rows_next(layout: &Layout, stream: &[u8], at: usize) -> Result<Step> {
+    // SAFETY: the call stays within these slices, as above.
     let answer = unsafe { c::strandroost_rows_next(layout.0, stream.as_ptr(), stream.len(), at) };
     let cell = answer.found.then_some(KindAndNumber { kind: answer.kind, number: answer.number });
     given(answer.refused, Step { cell, at: answer.at })

@@ -2,7 +2,9 @@
 
 use crate::calls::{self, ColumnParts, KindAndNumber};
 use crate::refusal::Result;
+use crate::stringpool;
 use crate::value::Value;
+use std::fmt;
 
 /// The type of a column.
 #[derive(Clone, Copy, Debug, PartialEq, Eq, Hash)]
@@ -15,6 +17,41 @@ pub enum ColumnType {
     Str(u32),
     /// A stream of the database.
     Binary,
+}
+
+impl ColumnType {
+    /// How many bytes of a table a cell takes, where references take three bytes or two.
+    ///
+    /// ```
+    /// use strandroost::ColumnType;
+    ///
+    /// assert_eq!((ColumnType::Int32.width(true), ColumnType::Str(0).width(true), ColumnType::Str(0).width(false)), (4, 3, 2));
+    /// ```
+    pub fn width(&self, long_string_refs: bool) -> usize {
+        match self {
+            ColumnType::Int16 | ColumnType::Binary => 2,
+            ColumnType::Int32 => 4,
+            ColumnType::Str(_) => stringpool::width(long_string_refs),
+        }
+    }
+}
+
+/// As the crate shows it.
+///
+/// ```
+/// use strandroost::ColumnType;
+///
+/// assert_eq!(format!("{} {} {}", ColumnType::Int16, ColumnType::Int32, ColumnType::Str(72)), "SMALLINT INTEGER VARCHAR(72)");
+/// ```
+impl fmt::Display for ColumnType {
+    fn fmt(&self, f: &mut fmt::Formatter<'_>) -> fmt::Result {
+        match self {
+            ColumnType::Int16 => f.pad("SMALLINT"),
+            ColumnType::Int32 => f.pad("INTEGER"),
+            ColumnType::Str(max_len) => f.pad(&format!("VARCHAR({max_len})")),
+            ColumnType::Binary => f.pad("BINARY"),
+        }
+    }
 }
 
 /// A column: its type, marks and range.
@@ -38,6 +75,11 @@ impl Column {
     /// ```
     pub fn build() -> ColumnBuilder {
         ColumnBuilder(calls::column_build())
+    }
+
+    /// The same column with the nullable mark.
+    pub fn but_nullable(self) -> Column {
+        Column(ColumnParts { is_nullable: true, ..self.0 })
     }
 
     /// The type.

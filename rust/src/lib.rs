@@ -1,28 +1,33 @@
 //! String pool, columns, rows and stream names of an MSI database, as the packer needs them.
 //!
-//! Behind every call stands a function that is proved to answer what document 01 says, for every input: it returns, it reads and
-//! writes only what it is lent, and a refusal leaves everything as it was. This package owns the memory that those functions are
-//! lent, and turns their refusals into [`Refusal`]s. No call panics.
+//! Behind every call that reads or writes a stream, or changes a pool, stands a function that is proved to answer what document 01
+//! says, for every input: it returns, it reads and writes only what it is lent, and a refusal leaves everything as it was. This
+//! package owns the memory that those functions are lent, and turns their refusals into [`Refusal`]s. No call panics.
 //!
 //! Texts are bytes in the pool's code page; the code page is carried and never judged.
 //!
 //! ```
-//! use strandroost::{StringPool, Table, ColumnType, Column, ValueRef};
+//! use strandroost::{Column, StringPool, Table, Value, ValueRef};
 //!
 //! let mut pool = StringPool::new(1252)?;
-//! let name = pool.incref(b"FontFile")?;
-//! let table = Table::new(vec![Column::build().primary_key().string(72), Column::build().int32()], false)?;
-//! let rows = vec![vec![ValueRef::Str(name), ValueRef::Int(40_000)]];
-//! let stream = table.write_rows(&rows)?;
-//! assert_eq!(table.read_rows(&stream)?, rows);
-//! assert_eq!(pool.get(name)?, b"FontFile");
+//! let name = ValueRef::create("FontFile".into(), &mut pool)?;
+//! let table = Table::new(vec![Column::build().primary_key().string(72), Column::build().int32()], pool.long_string_refs())?;
+//! let stream = table.write_rows(&[vec![name, ValueRef::Int(40_000)]])?;
+//! for row in table.rows(&stream, &pool)? {
+//!     assert_eq!(row.values(), ["FontFile".into(), Value::Int(40_000)]);
+//! }
 //! # Ok::<(), strandroost::Refusal>(())
 //! ```
 #![warn(missing_docs)]
+#![deny(unsafe_code)]
+
+#[cfg(not(all(target_arch = "x86_64", target_os = "linux", target_pointer_width = "64")))]
+compile_error!("strandroost is over an archive for x86-64 Linux: compile with --target x86_64-unknown-linux-gnu");
 
 pub mod calls;
 mod column;
 mod refusal;
+mod room;
 pub mod streamname;
 mod stringpool;
 mod table;
@@ -30,6 +35,6 @@ mod value;
 
 pub use column::{Column, ColumnBuilder, ColumnType};
 pub use refusal::{Place, Refusal, Result};
-pub use stringpool::{StringPool, StringRef};
-pub use table::{Rows, Table};
+pub use stringpool::{Entry, StringPool, StringRef, Texts};
+pub use table::{Row, Rows, Table};
 pub use value::{Value, ValueRef};

@@ -1,6 +1,6 @@
 //! Why a call was refused.
 
-use std::fmt;
+use std::{fmt, io};
 
 /// Where in a table a refusal stands, counted from 0.
 #[derive(Clone, Copy, Debug, PartialEq, Eq, Hash)]
@@ -20,14 +20,17 @@ pub enum Place {
 
 /// A call that was refused. Everything that was lent to it is as it was before.
 ///
+/// Printed in either way, and so by a `main` that answers it, it is a sentence:
+///
 /// ```
 /// use strandroost::StringPool;
 ///
 /// let refusal = StringPool::new(0x8000_0000).unwrap_err();
 /// assert_eq!(refusal.number(), 21);
 /// assert_eq!(refusal.to_string(), "the code page is above 2,147,483,647 (refusal 21)");
+/// assert_eq!(format!("{refusal:?}"), refusal.to_string());
 /// ```
-#[derive(Clone, Copy, Debug, PartialEq, Eq, Hash)]
+#[derive(Clone, Copy, PartialEq, Eq, Hash)]
 pub struct Refusal {
     number: u32,
     place: Place,
@@ -94,4 +97,18 @@ impl fmt::Display for Refusal {
     }
 }
 
+/// As [`Display`](fmt::Display) has it, since a `main` that is refused prints this.
+impl fmt::Debug for Refusal {
+    fn fmt(&self, f: &mut fmt::Formatter<'_>) -> fmt::Result {
+        write!(f, "{self}")
+    }
+}
+
 impl std::error::Error for Refusal {}
+
+/// For a caller that reads and writes files beside: the kind is `InvalidData`, and the refusal is inside.
+impl From<Refusal> for io::Error {
+    fn from(refusal: Refusal) -> io::Error {
+        io::Error::new(io::ErrorKind::InvalidData, refusal)
+    }
+}

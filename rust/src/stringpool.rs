@@ -1,17 +1,29 @@
 //! The string pool with its own rooms.
 
-use crate::calls::{self, KindAndNumber, Rooms, RoomsMut, State};
-use crate::refusal::{Refusal, Result};
+use crate::calls::{self, Rooms, RoomsMut, State};
+use crate::refusal::{Place, Refusal, Result};
+use crate::room::{cut, output, widen};
+use std::io::{self, Read, Write};
+use std::iter::{FusedIterator, Zip};
+use std::slice::Iter;
+use std::sync::OnceLock;
 
-/// The largest text room.
+/// The largest text room, and the most entries.
 const MAX_BYTES: usize = 268_435_455;
+const MAX_ENTRIES: usize = StringRef::MAX as usize;
 
 /// A reference to a text in the pool: its number, from 1 on.
 #[derive(Clone, Copy, Debug, PartialEq, Eq, Hash, PartialOrd, Ord)]
 pub struct StringRef(i32);
 
 impl StringRef {
-    /// The reference with a number from 1 to 16,777,215; refused with 8.
+    /// The least number of a reference.
+    pub const MIN: i32 = 1;
+
+    /// The largest number of a reference.
+    pub const MAX: i32 = 16_777_215;
+
+    /// The reference with a number from [`MIN`](StringRef::MIN) to [`MAX`](StringRef::MAX); refused with 8.
     ///
     /// ```
     /// use strandroost::StringRef;
@@ -24,14 +36,66 @@ impl StringRef {
         calls::string_ref(number).map(StringRef)
     }
 
+    /// The reference with a number that a proved call answered, so that it is within the limits.
+    pub(crate) fn answered(number: i32) -> StringRef {
+        StringRef(number)
+    }
+
     /// The reference's number.
     pub fn number(self) -> i32 {
         self.0
     }
+
+    /// The place of its entry, from 0 on.
+    fn place(self) -> usize {
+        (self.0 as usize).wrapping_sub(1)
+    }
+
+    /// Reads a reference of three bytes or of two as a table has it, and none where they are 0. An error is the reader's.
+    ///
+    /// ```
+    /// use strandroost::StringRef;
+    ///
+    /// assert_eq!(StringRef::read(&mut &[7, 0][..], false)?, StringRef::new(7).ok());
+    /// assert_eq!(StringRef::read(&mut &[0, 0, 0][..], true)?, None);
+    /// # Ok::<(), std::io::Error>(())
+    /// ```
+    pub fn read<R: Read>(reader: &mut R, long_string_refs: bool) -> io::Result<Option<StringRef>> {
+        let mut bytes = [0; 4];
+        reader.read_exact(&mut bytes[..width(long_string_refs)])?;
+        Ok(StringRef::new(i32::from_le_bytes(bytes)).ok())
+    }
+
+    /// Writes a reference, or none, as a table has it. An error is the writer's, or refusal 18: above 65,535 in two bytes.
+    ///
+    /// ```
+    /// use strandroost::StringRef;
+    ///
+    /// let mut stream = Vec::new();
+    /// StringRef::write(&mut stream, StringRef::new(7).ok(), true)?;
+    /// assert_eq!(stream, [7, 0, 0]);
+    /// let error = StringRef::write(&mut stream, StringRef::new(65_536).ok(), false).unwrap_err();
+    /// assert_eq!(error.to_string(), "the reference is above 65,535, and the table has short ones (refusal 18)");
+    /// # Ok::<(), std::io::Error>(())
+    /// ```
+    pub fn write<W: Write>(writer: &mut W, string_ref: Option<StringRef>, long_string_refs: bool) -> io::Result<()> {
+        let number = string_ref.map_or(0, StringRef::number);
+        if number > 65_535 && !long_string_refs {
+            return Err(Refusal::new(18, Place::Nowhere).into());
+        }
+        writer.write_all(&number.to_le_bytes()[..width(long_string_refs)])
+    }
 }
 
-/// The string pool of a database: texts, each with how many references count on it. It owns its rooms and lets them grow, so 4
-/// never reaches a caller, and 6 only where the texts would pass 268,435,455 bytes.
+/// How many bytes of a table a reference takes.
+pub(crate) fn width(long_string_refs: bool) -> usize {
+    if long_string_refs { 3 } else { 2 }
+}
+
+/// The string pool of a database: texts, each with how many references count on it.
+///
+/// It owns its rooms and lets them grow, so 4 and 6 reach a caller only where texts would pass 268,435,455 bytes (6), or where the
+/// system has no memory for entries (4) or texts (6). A call that is refused leaves the rooms as large as they were.
 ///
 /// ```
 /// use strandroost::StringPool;
@@ -39,10 +103,9 @@ impl StringRef {
 /// let mut pool = StringPool::new(1252)?;
 /// let name = pool.incref(b"Name")?;
 /// assert_eq!(pool.incref(b"Name")?, name);
-/// assert_eq!((pool.get(name)?, pool.refcount(name)?), (b"Name".to_vec(), 2));
-/// let (stream, data) = (pool.write_pool()?, pool.write_data()?);
-/// let again = StringPool::load(&stream, &data)?;
-/// assert_eq!(again.get(name)?, b"Name");
+/// assert_eq!((pool.get(name), pool.refcount(name)), (&b"Name"[..], 2));
+/// let again = StringPool::load(&pool.write_pool()?, &pool.write_data()?)?;
+/// assert_eq!(again.get(name), b"Name");
 /// # Ok::<(), strandroost::Refusal>(())
 /// ```
 #[derive(Clone, Debug)]
@@ -51,27 +114,34 @@ pub struct StringPool {
     lengths: Vec<u32>,
     counts: Vec<u16>,
     text: Vec<u8>,
+    /// Where each text begins: found by one pass when it is first asked for, and forgotten when texts move.
+    starts: OnceLock<Vec<u32>>,
 }
 
 impl StringPool {
     /// An empty pool with short references. Refused with 21.
     pub fn new(codepage: u32) -> Result<StringPool> {
         let state = calls::new(codepage)?;
-        Ok(StringPool { state, lengths: Vec::new(), counts: Vec::new(), text: Vec::new() })
+        Ok(StringPool { state, lengths: Vec::new(), counts: Vec::new(), text: Vec::new(), starts: OnceLock::new() })
     }
 
-    /// The pool of a pool stream and a data stream. Refused with 22, 1, 2, 3, 5, 6.
+    /// The pool of a pool stream and a data stream. Refused with 22, 1, 2, 3, 5, each before memory is asked for what it judges.
     pub fn load(pool: &[u8], data: &[u8]) -> Result<StringPool> {
         // An entry takes four bytes of the stream at least, and the texts are no longer than the data stream.
-        let entries = pool.len() / 4;
-        let mut made = StringPool {
-            state: calls::new(0)?,
-            lengths: vec![0; entries],
-            counts: vec![0; entries],
-            text: vec![0; data.len().min(MAX_BYTES)],
-        };
-        made.state = calls::load(pool, data, made.rooms_mut())?;
-        Ok(made)
+        let (entries, bytes) = ((pool.len().saturating_sub(4) / 4).min(MAX_ENTRIES), data.len());
+        let mut made = StringPool::new(0)?;
+        loop {
+            match calls::load(pool, data, made.rooms_mut()) {
+                Ok(state) => {
+                    made.state = state;
+                    made.cut(state.num_strings, made.text_bytes());
+                    return Ok(made);
+                }
+                Err(refusal) if refusal.number() == 4 && made.widen_entries(entries) => (),
+                Err(refusal) if refusal.number() == 6 && widen(&mut made.text, bytes) => (),
+                Err(refusal) => return Err(refusal),
+            }
+        }
     }
 
     fn rooms(&self) -> Rooms<'_> {
@@ -80,6 +150,21 @@ impl StringPool {
 
     fn rooms_mut(&mut self) -> RoomsMut<'_> {
         RoomsMut { lengths: &mut self.lengths, counts: &mut self.counts, text: &mut self.text }
+    }
+
+    /// The lengths in use.
+    fn lengths(&self) -> &[u32] {
+        self.lengths.get(..self.state.num_strings).unwrap_or_default()
+    }
+
+    /// The counts in use.
+    fn counts(&self) -> &[u16] {
+        self.counts.get(..self.state.num_strings).unwrap_or_default()
+    }
+
+    /// How many bytes the texts take.
+    fn text_bytes(&self) -> usize {
+        self.lengths().iter().map(|length| *length as usize).sum()
     }
 
     /// The code page.
@@ -103,84 +188,103 @@ impl StringPool {
         self.state.long_string_refs
     }
 
-    /// The text of a reference, empty past the last entry.
-    pub fn get(&self, reference: StringRef) -> Result<Vec<u8>> {
-        let mut out = vec![0; self.text_length(reference.0)];
-        let bytes = calls::get(self.state, self.rooms(), reference.0, &mut out)?;
-        out.truncate(bytes);
-        Ok(out)
-    }
-
-    /// How long the text of a number is, 0 where it has none.
-    fn text_length(&self, number: i32) -> usize {
-        let place = usize::try_from(number).ok().and_then(|number| number.checked_sub(1));
-        let used = self.lengths.iter().take(self.state.num_strings);
-        place.and_then(|place| used.skip(place).next()).map_or(0, |length| *length as usize)
-    }
-
-    /// A value that a cell stands for, and its text, where it is one.
-    pub(crate) fn value_of(&self, cell: KindAndNumber) -> Result<(KindAndNumber, Vec<u8>)> {
-        let shown = calls::to_value(cell, self.state, self.rooms())?;
-        let mut out = vec![0; if cell.kind == 2 { self.text_length(cell.number) } else { 0 }];
-        let bytes = calls::to_text(cell, self.state, self.rooms(), &mut out)?;
-        out.truncate(bytes);
-        Ok((shown, out))
-    }
-
-    /// Creates a value, in rooms that grow as a text needs them.
-    pub(crate) fn create(&mut self, value: KindAndNumber, text: &[u8]) -> Result<KindAndNumber> {
-        loop {
-            let state = self.state;
-            match calls::create(value, text, state, self.rooms_mut()) {
-                Ok((cell, after)) => {
-                    self.state = after;
-                    return Ok(cell);
-                }
-                Err(refusal) => self.grow(refusal, text.len())?,
-            }
+    /// The text of a reference, empty past the last entry. The first call after texts moved finds where each begins, by one pass;
+    /// every other is an index.
+    pub fn get(&self, reference: StringRef) -> &[u8] {
+        let place = reference.place();
+        match (self.starts().get(place), self.lengths.get(place)) {
+            (Some(start), Some(length)) => part(&self.text, *start as usize, *length as usize),
+            _ => &[],
         }
     }
 
-    pub(crate) fn remove(&mut self, cell: KindAndNumber) -> Result<()> {
-        self.state = calls::remove(cell, self.state, self.rooms_mut())?;
-        Ok(())
+    /// Where each text begins. The pool is sound, so no sum is above the largest text room.
+    fn starts(&self) -> &[u32] {
+        self.starts.get_or_init(|| {
+            let mut end: u32 = 0;
+            let begin = |length: &u32| {
+                end = end.wrapping_add(*length);
+                end.wrapping_sub(*length)
+            };
+            self.lengths().iter().map(begin).collect()
+        })
     }
 
     /// How many references count on a number, 0 past the last entry.
-    pub fn refcount(&self, reference: StringRef) -> Result<usize> {
-        calls::refcount(self.state, self.rooms(), reference.0)
+    pub fn refcount(&self, reference: StringRef) -> u16 {
+        self.counts().get(reference.place()).copied().unwrap_or_default()
+    }
+
+    /// Every entry in order, free ones with them, by one pass.
+    ///
+    /// ```
+    /// use strandroost::StringPool;
+    ///
+    /// let mut pool = StringPool::new(1252)?;
+    /// for text in ["Arial", "Times", "Arial"] {
+    ///     pool.incref(text.as_bytes())?;
+    /// }
+    /// let twice: Vec<_> = pool.texts().filter(|entry| entry.count == 2).map(|entry| entry.text).collect();
+    /// assert_eq!(twice, [b"Arial"]);
+    /// # Ok::<(), strandroost::Refusal>(())
+    /// ```
+    pub fn texts(&self) -> Texts<'_> {
+        Texts { entries: self.lengths().iter().zip(self.counts()), number: 0, rest: &self.text }
     }
 
     /// One reference more on a text. Refused with 22, 11, 12, 6.
     pub fn incref(&mut self, text: &[u8]) -> Result<StringRef> {
+        let before = (self.lengths.len(), self.text.len());
         loop {
-            let state = self.state;
-            match calls::incref(state, self.rooms_mut(), text) {
+            match calls::incref(self.state, self.rooms_mut(), text) {
                 Ok((number, after)) => {
                     self.state = after;
-                    return Ok(StringRef(number));
+                    return Ok(self.taken(StringRef::answered(number)));
                 }
-                Err(refusal) => self.grow(refusal, text.len())?,
+                Err(refusal) if refusal.number() == 4 && self.grow_entries() => (),
+                Err(refusal) if refusal.number() == 6 && self.grow_text(text.len()) => (),
+                Err(refusal) => {
+                    self.cut(before.0, before.1);
+                    return Err(refusal);
+                }
             }
         }
     }
 
-    /// Makes the room that a refusal asks for, or hands the refusal on.
-    fn grow(&mut self, refusal: Refusal, text: usize) -> Result<()> {
-        match refusal.number() {
-            4 => {
-                let entries = self.lengths.len() * 2 + 16;
-                self.lengths.resize(entries, 0);
-                self.counts.resize(entries, 0);
-                Ok(())
-            }
-            6 if self.text.len() < MAX_BYTES => {
-                let bytes = self.text.len().saturating_mul(2).saturating_add(text).saturating_add(64);
-                self.text.resize(bytes.min(MAX_BYTES), 0);
-                Ok(())
-            }
-            _ => Err(refusal),
+    /// After a take: no text moved where an equal one counted up, which leaves its count above 1.
+    fn taken(&mut self, reference: StringRef) -> StringRef {
+        if self.refcount(reference) == 1 {
+            self.starts.take();
         }
+        reference
+    }
+
+    fn widen_entries(&mut self, entries: usize) -> bool {
+        widen(&mut self.lengths, entries) && widen(&mut self.counts, entries)
+    }
+
+    /// Room for an entry more, or for twice as many. False where it cannot be had.
+    fn grow_entries(&mut self) -> bool {
+        let needed = self.state.num_strings + 1;
+        let twice = needed.max(2 * self.lengths.len()).max(16).min(MAX_ENTRIES);
+        self.widen_entries(twice) || self.widen_entries(needed)
+    }
+
+    /// Room for a text more, or for twice as many bytes. False where it cannot be had.
+    fn grow_text(&mut self, text: usize) -> bool {
+        // A text that needs room goes into the first free entry, whose bytes go, or into a new one.
+        let free = self.counts().iter().position(|count| *count == 0);
+        let freed = free.and_then(|place| self.lengths.get(place)).map_or(0, |length| *length as usize);
+        let needed = self.text_bytes() - freed + text;
+        let twice = needed.max(2 * self.text.len()).min(MAX_BYTES);
+        needed <= MAX_BYTES && (widen(&mut self.text, twice) || widen(&mut self.text, needed))
+    }
+
+    /// Gives back what the rooms have over so many entries and bytes.
+    fn cut(&mut self, entries: usize, bytes: usize) {
+        cut(&mut self.lengths, entries);
+        cut(&mut self.counts, entries);
+        cut(&mut self.text, bytes);
     }
 
     /// One reference less on a number; the last one takes the text with it. Refused with 9, 10.
@@ -195,23 +299,71 @@ impl StringPool {
     /// # Ok::<(), strandroost::Refusal>(())
     /// ```
     pub fn decref(&mut self, reference: StringRef) -> Result<()> {
-        self.state = calls::decref(self.state, self.rooms_mut(), reference.0)?;
+        self.state = calls::decref(self.state, self.rooms_mut(), reference.number())?;
+        if self.refcount(reference) == 0 {
+            self.starts.take();
+        }
         Ok(())
     }
 
-    /// The pool stream.
+    /// The pool stream. Refused with 7 where the system has no memory for it.
     pub fn write_pool(&self) -> Result<Vec<u8>> {
-        let mut out = vec![0; 4 + 8 * self.state.num_strings];
+        let mut out = output(4 + 8 * self.state.num_strings)?;
         let bytes = calls::write_pool(self.state, self.rooms(), &mut out)?;
-        out.truncate(bytes);
+        cut(&mut out, bytes);
         Ok(out)
     }
 
-    /// The data stream.
+    /// The data stream. Refused with 7 where the system has no memory for it.
     pub fn write_data(&self) -> Result<Vec<u8>> {
-        let mut out = vec![0; self.text.len()];
-        let bytes = calls::write_data(self.state, self.rooms(), &mut out)?;
-        out.truncate(bytes);
+        let mut out = output(self.text_bytes())?;
+        calls::write_data(self.state, self.rooms(), &mut out)?;
         Ok(out)
     }
+}
+
+/// An entry of a pool: [`StringPool::texts`] gives them.
+#[derive(Clone, Copy, Debug, PartialEq, Eq)]
+pub struct Entry<'a> {
+    /// Its number.
+    pub reference: StringRef,
+    /// Its text.
+    pub text: &'a [u8],
+    /// How many references count on it, 0 where it is free.
+    pub count: u16,
+}
+
+/// The entries of a pool in order: [`StringPool::texts`] makes it.
+#[derive(Clone, Debug)]
+pub struct Texts<'a> {
+    entries: Zip<Iter<'a, u32>, Iter<'a, u16>>,
+    /// The number before the next.
+    number: i32,
+    /// The texts from the next on.
+    rest: &'a [u8],
+}
+
+impl<'a> Iterator for Texts<'a> {
+    type Item = Entry<'a>;
+
+    fn next(&mut self) -> Option<Entry<'a>> {
+        let (length, count) = self.entries.next()?;
+        let text = part(self.rest, 0, *length as usize);
+        self.rest = self.rest.get(text.len()..).unwrap_or_default();
+        self.number += 1;
+        Some(Entry { reference: StringRef(self.number), text, count: *count })
+    }
+
+    fn size_hint(&self) -> (usize, Option<usize>) {
+        self.entries.size_hint()
+    }
+}
+
+impl ExactSizeIterator for Texts<'_> {}
+
+impl FusedIterator for Texts<'_> {}
+
+/// A part of the texts, which a sound pool has.
+fn part(text: &[u8], start: usize, length: usize) -> &[u8] {
+    text.get(start..start + length).unwrap_or_default()
 }

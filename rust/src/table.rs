@@ -1,9 +1,13 @@
 //! Tables: columns, and their rows in a stream.
 
-use crate::calls::{self, Layout};
+use crate::calls::{self, KindAndNumber, Layout};
 use crate::column::Column;
 use crate::refusal::{Place, Refusal, Result};
-use crate::value::ValueRef;
+use crate::room::output;
+use crate::stringpool::StringPool;
+use crate::value::{Value, ValueRef};
+use std::iter::FusedIterator;
+use std::ops::Range;
 
 /// The layout of a table.
 #[derive(Clone, Debug, PartialEq, Eq)]
@@ -49,6 +53,19 @@ impl Table {
         &self.columns
     }
 
+    /// The places of the primary key columns.
+    ///
+    /// ```
+    /// use strandroost::Table;
+    ///
+    /// assert_eq!(Table::from_bitfields(&[0x2d48, 0x502, 0x2502], false)?.primary_key_indices(), [0, 2]);
+    /// # Ok::<(), strandroost::Refusal>(())
+    /// ```
+    pub fn primary_key_indices(&self) -> Vec<usize> {
+        let marked = self.columns.iter().enumerate().filter(|(_, column)| column.is_primary_key());
+        marked.map(|(place, _)| place).collect()
+    }
+
     /// Whether references take three bytes.
     pub fn long_string_refs(&self) -> bool {
         self.layout.long_string_refs()
@@ -61,34 +78,40 @@ impl Table {
 
     /// One cell of a stream. Refused with 22, 14, 15.
     pub fn read_cell(&self, stream: &[u8], row: usize, column: usize) -> Result<ValueRef> {
-        ValueRef::from_cell(calls::read_cell(&self.layout, stream, row, column)?)
+        calls::read_cell(&self.layout, stream, row, column).map(ValueRef::answered)
     }
 
-    /// The rows of a stream. Refused with 22, 14.
+    /// The rows of a stream as they are stored. Refused with 22, 14.
     pub fn read_rows(&self, stream: &[u8]) -> Result<Vec<Vec<ValueRef>>> {
-        let rows = self.num_rows(stream)?;
-        let cells = rows * self.columns.len();
-        let (mut kinds, mut numbers) = (vec![0; cells], vec![0; cells]);
-        calls::read_rows(&self.layout, stream, &mut kinds, &mut numbers)?;
-        let handed = kinds.iter().zip(&numbers).map(|(kind, number)| calls::KindAndNumber { kind: *kind, number: *number });
-        let mut found = handed.map(ValueRef::from_cell);
-        (0..rows).map(|_| found.by_ref().take(self.columns.len()).collect()).collect()
+        let cells = self.cells(stream)?;
+        Ok((0..cells.rows).map(|row| cells.row(row).collect()).collect())
     }
 
-    /// The cells of a stream one after another, row by row, with nothing read ahead.
+    /// The rows of a stream with their values, row by row. All cells are read here, so that the walk itself is never refused.
+    /// Refused with 22, 14.
     ///
     /// ```
-    /// use strandroost::{Column, Table, ValueRef};
+    /// use strandroost::{StringPool, Table, Value};
     ///
-    /// let table = Table::new(vec![Column::build().int16(), Column::build().binary()], false)?;
-    /// let mut rows = table.rows(&[0x01, 0x80, 0x00, 0x00, 0x01, 0x00, 0x01, 0x00]);
-    /// assert_eq!(rows.next(), Some(Ok(ValueRef::Int(1))));
-    /// assert_eq!(rows.next(), Some(Ok(ValueRef::Binary)));
-    /// assert_eq!(rows.collect::<Result<Vec<_>, _>>()?, [ValueRef::Null, ValueRef::Binary]);
+    /// let pool = StringPool::load(&[0xe4, 4, 0, 0, 2, 0, 1, 0], b"AB")?;
+    /// let table = Table::from_bitfields(&[0x2d48, 0x502], pool.long_string_refs())?;
+    /// let rows = table.rows(&[0x01, 0x00, 0x00, 0x00, 0x07, 0x80, 0x00, 0x00], &pool)?;
+    /// assert_eq!(rows.len(), 2);
+    /// let values: Vec<_> = rows.map(|row| row.into_values()).collect();
+    /// assert_eq!(values, [["AB".into(), Value::Int(7)], [Value::Null, Value::Null]]);
     /// # Ok::<(), strandroost::Refusal>(())
     /// ```
-    pub fn rows<'a>(&'a self, stream: &'a [u8]) -> Rows<'a> {
-        Rows { layout: &self.layout, stream, at: 0, refused: false }
+    pub fn rows<'a>(&'a self, stream: &[u8], pool: &'a StringPool) -> Result<Rows<'a>> {
+        let cells = self.cells(stream)?;
+        Ok(Rows { columns: &self.columns, pool, left: 0..cells.rows, cells })
+    }
+
+    /// All cells of a stream by one call. Refused with 22, 14, before memory is asked for them.
+    fn cells(&self, stream: &[u8]) -> Result<Cells> {
+        let (rows, columns) = (self.num_rows(stream)?, self.columns.len());
+        let (mut kinds, mut numbers) = (output(rows * columns)?, output(rows * columns)?);
+        calls::read_rows(&self.layout, stream, &mut kinds, &mut numbers)?;
+        Ok(Cells { rows, columns, kinds, numbers })
     }
 
     /// The stream of rows. Refused with 14, 23, and for a cell with 16, 17, 18.
@@ -99,57 +122,125 @@ impl Table {
     /// let table = Table::new(vec![Column::build().int16()], false)?;
     /// let refusal = table.write_rows(&[vec![ValueRef::Int(1)], vec![ValueRef::Int(40_000)]]).unwrap_err();
     /// assert_eq!((refusal.number(), refusal.place()), (17, Place::Cell { row: 1, column: 0 }));
+    /// assert_eq!(refusal.to_string(), "the integer does not fit its column (refusal 17, row 1, column 0)");
     /// # Ok::<(), strandroost::Refusal>(())
     /// ```
     pub fn write_rows(&self, rows: &[Vec<ValueRef>]) -> Result<Vec<u8>> {
-        // A row too short for one too long would go unseen in the number of cells.
-        if rows.iter().any(|row| row.len() != self.columns.len()) {
-            return Err(Refusal::new(23, Place::Nowhere));
-        }
+        self.judge_rows(rows)?;
         let (kinds, numbers): (Vec<u8>, Vec<i32>) =
             rows.iter().flatten().map(|cell| cell.handed()).map(|cell| (cell.kind, cell.number)).unzip();
-        let mut out = vec![0; 4 * kinds.len()];
+        let width: usize = self.columns.iter().map(|column| column.coltype().width(self.long_string_refs())).sum();
+        let mut out = output(rows.len() * width)?;
         let bytes = calls::write_rows(&self.layout, rows.len(), &kinds, &numbers, &mut out)?;
         out.truncate(bytes);
         Ok(out)
     }
+
+    /// 14, then 23, before memory is asked for cells.
+    fn judge_rows(&self, rows: &[Vec<ValueRef>]) -> Result<()> {
+        // Handed no cells, the call judges the number of rows, and has 23 for any cells that there should be.
+        match calls::write_rows(&self.layout, rows.len(), &[], &[], &mut []) {
+            Err(refusal) if refusal.number() != 23 => Err(refusal),
+            // A row too short for one too long would go unseen in the number of cells.
+            _ if rows.iter().any(|row| row.len() != self.columns.len()) => Err(Refusal::new(23, Place::Nowhere)),
+            _ => Ok(()),
+        }
+    }
 }
 
-/// The cells of a table's stream, one after another, row by row: [`Table::rows`] makes it. A refusal (22, 14) is answered once,
-/// and then nothing more.
+/// The cells of a stream, row by row.
+#[derive(Clone, Debug)]
+struct Cells {
+    rows: usize,
+    columns: usize,
+    kinds: Vec<u8>,
+    numbers: Vec<i32>,
+}
+
+impl Cells {
+    fn row(&self, row: usize) -> impl Iterator<Item = ValueRef> + '_ {
+        let places = row * self.columns..(row + 1) * self.columns;
+        let kinds = self.kinds.get(places.clone()).unwrap_or_default();
+        let numbers = self.numbers.get(places).unwrap_or_default();
+        kinds.iter().zip(numbers).map(|(kind, number)| ValueRef::answered(KindAndNumber { kind: *kind, number: *number }))
+    }
+}
+
+/// One row of a table, with its values.
+#[derive(Clone, Debug, PartialEq, Eq)]
+pub struct Row<'a> {
+    columns: &'a [Column],
+    values: Vec<Value>,
+}
+
+impl<'a> Row<'a> {
+    /// How many values there are.
+    pub fn len(&self) -> usize {
+        self.values.len()
+    }
+
+    /// Whether there are none.
+    pub fn is_empty(&self) -> bool {
+        self.values.is_empty()
+    }
+
+    /// The columns of the table.
+    pub fn columns(&self) -> &'a [Column] {
+        self.columns
+    }
+
+    /// The value in a column, counted from 0; none past the last.
+    pub fn get(&self, column: usize) -> Option<&Value> {
+        self.values.get(column)
+    }
+
+    /// The values, column by column.
+    pub fn values(&self) -> &[Value] {
+        &self.values
+    }
+
+    /// The values themselves.
+    pub fn into_values(self) -> Vec<Value> {
+        self.values
+    }
+}
+
+/// The rows of a table's stream, one after another: [`Table::rows`] makes it.
 #[derive(Clone, Debug)]
 pub struct Rows<'a> {
-    layout: &'a Layout,
-    stream: &'a [u8],
-    at: usize,
-    refused: bool,
+    columns: &'a [Column],
+    pool: &'a StringPool,
+    left: Range<usize>,
+    cells: Cells,
 }
 
-impl Rows<'_> {
-    /// How many cells were answered.
-    pub fn place(&self) -> usize {
-        self.at
+impl<'a> Rows<'a> {
+    /// The columns of the table.
+    pub fn columns(&self) -> &'a [Column] {
+        self.columns
+    }
+
+    fn row(&self, row: usize) -> Row<'a> {
+        Row { columns: self.columns, values: self.cells.row(row).map(|cell| cell.to_value(self.pool)).collect() }
     }
 }
 
-impl Iterator for Rows<'_> {
-    type Item = Result<ValueRef>;
+impl<'a> Iterator for Rows<'a> {
+    type Item = Row<'a>;
 
-    fn next(&mut self) -> Option<Result<ValueRef>> {
-        if self.refused {
-            return None;
-        }
-        match calls::rows_next(self.layout, self.stream, self.at) {
-            Ok(step) => {
-                self.at = step.at;
-                step.cell.map(ValueRef::from_cell)
-            }
-            Err(refusal) => {
-                self.refused = true;
-                Some(Err(refusal))
-            }
-        }
+    fn next(&mut self) -> Option<Row<'a>> {
+        self.left.next().map(|row| self.row(row))
+    }
+
+    fn nth(&mut self, n: usize) -> Option<Row<'a>> {
+        self.left.nth(n).map(|row| self.row(row))
+    }
+
+    fn size_hint(&self) -> (usize, Option<usize>) {
+        self.left.size_hint()
     }
 }
 
-impl std::iter::FusedIterator for Rows<'_> {}
+impl ExactSizeIterator for Rows<'_> {}
+
+impl FusedIterator for Rows<'_> {}

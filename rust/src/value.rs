@@ -3,9 +3,19 @@
 use crate::calls::KindAndNumber;
 use crate::refusal::Result;
 use crate::stringpool::{StringPool, StringRef};
+use std::fmt;
 
 /// A value, with its text where it is one.
-#[derive(Clone, Debug, PartialEq, Eq, Hash)]
+///
+/// ```
+/// use strandroost::Value;
+///
+/// let (text, number) = (Value::from("Arial"), Value::from(7));
+/// assert_eq!((text.as_str(), text.as_bytes(), text.as_int()), (Some("Arial"), Some(&b"Arial"[..]), None));
+/// assert_eq!((number.as_int(), number.is_null()), (Some(7), false));
+/// assert_eq!(format!("{number} {text} {}", Value::Null), "7 \"Arial\" NULL");
+/// ```
+#[derive(Clone, Debug, PartialEq, Eq, Hash, PartialOrd, Ord)]
 pub enum Value {
     /// No value.
     Null,
@@ -15,6 +25,107 @@ pub enum Value {
     Str(Vec<u8>),
     /// A stream of the database.
     Binary,
+}
+
+impl Value {
+    /// Whether there is no value.
+    pub fn is_null(&self) -> bool {
+        matches!(self, Value::Null)
+    }
+
+    /// Whether it is an integer.
+    pub fn is_int(&self) -> bool {
+        matches!(self, Value::Int(_))
+    }
+
+    /// Whether it is a text.
+    pub fn is_str(&self) -> bool {
+        matches!(self, Value::Str(_))
+    }
+
+    /// The integer, where it is one.
+    pub fn as_int(&self) -> Option<i32> {
+        match self {
+            Value::Int(number) => Some(*number),
+            _ => None,
+        }
+    }
+
+    /// The bytes of the text, where it is one.
+    pub fn as_bytes(&self) -> Option<&[u8]> {
+        match self {
+            Value::Str(text) => Some(text),
+            _ => None,
+        }
+    }
+
+    /// The text, where it is one and its bytes are UTF-8, as those of a text in ASCII are in any code page.
+    pub fn as_str(&self) -> Option<&str> {
+        self.as_bytes().and_then(|text| std::str::from_utf8(text).ok())
+    }
+}
+
+/// As the crate shows it; bytes that are not UTF-8 are shown as `U+FFFD`.
+impl fmt::Display for Value {
+    fn fmt(&self, f: &mut fmt::Formatter<'_>) -> fmt::Result {
+        match self {
+            Value::Null => f.pad("NULL"),
+            Value::Int(number) => number.fmt(f),
+            Value::Str(text) => f.pad(&format!("{:?}", String::from_utf8_lossy(text))),
+            Value::Binary => f.pad("BINARY_STREAM"),
+        }
+    }
+}
+
+impl From<bool> for Value {
+    /// 1 or 0.
+    fn from(value: bool) -> Value {
+        Value::Int(value.into())
+    }
+}
+
+impl From<i16> for Value {
+    fn from(number: i16) -> Value {
+        Value::Int(number.into())
+    }
+}
+
+impl From<u16> for Value {
+    fn from(number: u16) -> Value {
+        Value::Int(number.into())
+    }
+}
+
+impl From<i32> for Value {
+    fn from(number: i32) -> Value {
+        Value::Int(number)
+    }
+}
+
+impl From<&str> for Value {
+    /// The bytes are UTF-8: beyond ASCII they suit a pool of code page 65001 alone.
+    fn from(text: &str) -> Value {
+        Value::Str(text.into())
+    }
+}
+
+impl From<String> for Value {
+    /// As from `&str`.
+    fn from(text: String) -> Value {
+        Value::Str(text.into())
+    }
+}
+
+impl From<&[u8]> for Value {
+    fn from(text: &[u8]) -> Value {
+        Value::Str(text.into())
+    }
+}
+
+impl From<Vec<u8>> for Value {
+    fn from(text: Vec<u8>) -> Value {
+        Value::Str(text)
+    }
 }
 
 /// What a cell of a table holds: a text is a reference into the pool.
@@ -31,29 +142,28 @@ pub enum ValueRef {
 }
 
 impl ValueRef {
-    /// Puts a value into the pool, where it is a text. Refused as [`StringPool::incref`].
+    /// Puts a value into the pool, where it is a text; any other asks nothing of it. Refused as [`StringPool::incref`].
     ///
     /// ```
     /// use strandroost::{StringPool, Value, ValueRef};
     ///
     /// let mut pool = StringPool::new(1252)?;
-    /// let cell = ValueRef::create(Value::Str(b"Arial".to_vec()), &mut pool)?;
-    /// assert_eq!(cell.to_value(&pool)?, Value::Str(b"Arial".to_vec()));
+    /// let cell = ValueRef::create("Arial".into(), &mut pool)?;
+    /// assert_eq!(cell.to_value(&pool), Value::from("Arial"));
     /// cell.remove(&mut pool)?;
-    /// assert_eq!(cell.to_value(&pool)?, Value::Str(Vec::new()));
+    /// assert_eq!(cell.to_value(&pool), Value::from(""));
     /// # Ok::<(), strandroost::Refusal>(())
     /// ```
     pub fn create(value: Value, pool: &mut StringPool) -> Result<ValueRef> {
-        let (kind, number, text): (u8, i32, &[u8]) = match &value {
-            Value::Null => (0, 0, &[]),
-            Value::Int(number) => (1, *number, &[]),
-            Value::Str(text) => (2, 0, text),
-            Value::Binary => (3, 0, &[]),
-        };
-        ValueRef::from_cell(pool.create(KindAndNumber { kind, number }, text)?)
+        Ok(match value {
+            Value::Null => ValueRef::Null,
+            Value::Int(number) => ValueRef::Int(number),
+            Value::Str(text) => ValueRef::Str(pool.incref(&text)?),
+            Value::Binary => ValueRef::Binary,
+        })
     }
 
-    /// Drops the reference, where the cell holds one. Refused as [`StringPool::decref`].
+    /// Drops the reference, where the cell holds one; any other asks nothing of the pool. Refused as [`StringPool::decref`].
     ///
     /// ```
     /// use strandroost::{StringPool, StringRef, ValueRef};
@@ -65,27 +175,30 @@ impl ValueRef {
     /// # Ok::<(), strandroost::Refusal>(())
     /// ```
     pub fn remove(self, pool: &mut StringPool) -> Result<()> {
-        pool.remove(self.handed())
+        match self {
+            ValueRef::Str(reference) => pool.decref(reference),
+            _ => Ok(()),
+        }
     }
 
-    /// The value, with its text from the pool; empty past the last entry.
+    /// The value, with its text from the pool; empty past the last entry. Only a text asks anything of the pool, by one
+    /// [`StringPool::get`].
     ///
     /// ```
     /// use strandroost::{StringPool, StringRef, Value, ValueRef};
     ///
     /// let pool = StringPool::load(&[0xe4, 4, 0, 0, 2, 0, 1, 0], b"AB")?;
-    /// assert_eq!(ValueRef::Str(StringRef::new(1)?).to_value(&pool)?, Value::Str(b"AB".to_vec()));
-    /// assert_eq!(ValueRef::Int(-7).to_value(&pool)?, Value::Int(-7));
+    /// assert_eq!(ValueRef::Str(StringRef::new(1)?).to_value(&pool), Value::Str(b"AB".to_vec()));
+    /// assert_eq!(ValueRef::Int(-7).to_value(&pool), Value::Int(-7));
     /// # Ok::<(), strandroost::Refusal>(())
     /// ```
-    pub fn to_value(self, pool: &StringPool) -> Result<Value> {
-        let (shown, text) = pool.value_of(self.handed())?;
-        Ok(match shown.kind {
-            0 => Value::Null,
-            1 => Value::Int(shown.number),
-            2 => Value::Str(text),
-            _ => Value::Binary,
-        })
+    pub fn to_value(self, pool: &StringPool) -> Value {
+        match self {
+            ValueRef::Null => Value::Null,
+            ValueRef::Int(number) => Value::Int(number),
+            ValueRef::Str(reference) => Value::Str(pool.get(reference).to_vec()),
+            ValueRef::Binary => Value::Binary,
+        }
     }
 
     pub(crate) fn handed(self) -> KindAndNumber {
@@ -97,12 +210,13 @@ impl ValueRef {
         }
     }
 
-    pub(crate) fn from_cell(cell: KindAndNumber) -> Result<ValueRef> {
-        Ok(match cell.kind {
+    /// A cell that a proved call answered.
+    pub(crate) fn answered(cell: KindAndNumber) -> ValueRef {
+        match cell.kind {
             0 => ValueRef::Null,
             1 => ValueRef::Int(cell.number),
-            2 => ValueRef::Str(StringRef::new(cell.number)?),
+            2 => ValueRef::Str(StringRef::answered(cell.number)),
             _ => ValueRef::Binary,
-        })
+        }
     }
 }

@@ -1,0 +1,176 @@
+//! What memory the package asks for, and when: sizes are judged first, a refusal leaves no room behind, and a system that has no
+//! memory is a refusal and no abort.
+
+use std::alloc::{GlobalAlloc, Layout, System};
+use std::cell::Cell;
+use strandroost::{streamname, Column, StringPool, StringRef, Table, ValueRef};
+
+const MAX_BYTES: usize = 268_435_455;
+const MEGABYTE: usize = 1 << 20;
+
+/// The system's memory, with how much this thread holds, the most that it held, and the largest piece that it is given.
+struct Counted;
+
+thread_local! {
+    static HELD: Cell<isize> = const { Cell::new(0) };
+    static MOST: Cell<isize> = const { Cell::new(0) };
+    static LARGEST: Cell<usize> = const { Cell::new(usize::MAX) };
+}
+
+/// A piece of the system's in place of one of `before` bytes, counted; none where it would be too large.
+fn counted(before: usize, size: usize, give: impl FnOnce() -> *mut u8) -> *mut u8 {
+    if size > before && size > LARGEST.get() {
+        return std::ptr::null_mut();
+    }
+    let given = give();
+    if !given.is_null() {
+        HELD.set(HELD.get() + size as isize - before as isize);
+        MOST.set(MOST.get().max(HELD.get()));
+    }
+    given
+}
+
+// SAFETY: every piece is the system's own, or none; each call hands on what its caller promises.
+unsafe impl GlobalAlloc for Counted {
+    unsafe fn alloc(&self, layout: Layout) -> *mut u8 {
+        counted(0, layout.size(), || unsafe { System.alloc(layout) })
+    }
+
+    unsafe fn alloc_zeroed(&self, layout: Layout) -> *mut u8 {
+        counted(0, layout.size(), || unsafe { System.alloc_zeroed(layout) })
+    }
+
+    unsafe fn realloc(&self, piece: *mut u8, layout: Layout, size: usize) -> *mut u8 {
+        counted(layout.size(), size, || unsafe { System.realloc(piece, layout, size) })
+    }
+
+    unsafe fn dealloc(&self, piece: *mut u8, layout: Layout) {
+        HELD.set(HELD.get() - layout.size() as isize);
+        unsafe { System.dealloc(piece, layout) }
+    }
+}
+
+#[global_allocator]
+static ALL: Counted = Counted;
+
+/// What a call answered, how much memory it held at most beyond what was held before, and how much it left held.
+fn watched<T>(call: impl FnOnce() -> T) -> (T, isize, isize) {
+    let before = HELD.get();
+    MOST.set(before);
+    let answer = call();
+    (answer, MOST.get() - before, HELD.get() - before)
+}
+
+/// A call in a system that gives no piece above a size.
+fn with_largest<T>(size: usize, call: impl FnOnce() -> T) -> T {
+    LARGEST.set(size);
+    let answer = call();
+    LARGEST.set(usize::MAX);
+    answer
+}
+
+fn number<T>(answer: Result<T, strandroost::Refusal>) -> u32 {
+    answer.map_or_else(|refusal| refusal.number(), |_| 0)
+}
+
+/// A pool stream of so many entries of one byte.
+fn stream(entries: usize) -> Vec<u8> {
+    [&[0xe4, 4, 0, 0x80][..], &[1, 0, 1, 0].repeat(entries)].concat()
+}
+
+#[test]
+fn a_gibibyte_is_22_without_memory() {
+    let huge = vec![0; 1 << 30];
+    let table = Table::from_bitfields(&[0x502], false).unwrap();
+    let (pool, data) = (watched(|| number(StringPool::load(&huge, &[]))), watched(|| number(StringPool::load(&[0; 4], &huge))));
+    assert_eq!((pool, data), ((22, 0, 0), (22, 0, 0)));
+    let mut short = StringPool::new(1252).unwrap();
+    assert_eq!(watched(|| number(short.incref(&huge))), (22, 0, 0));
+    let (rows, most, _) = watched(|| number(table.read_rows(&huge)));
+    assert!((rows, most) == (22, 0));
+}
+
+#[test]
+fn names_over_their_size_ask_for_no_more_than_a_name() {
+    let (name, units) = ("-".repeat(1 << 26), vec![0x2d; 1 << 26]);
+    for (refused, most, left) in [
+        watched(|| number(streamname::encode(&name, true))),
+        watched(|| number(streamname::decode(&name))),
+        watched(|| number(streamname::is_valid(&name, true))),
+        watched(|| number(streamname::encode_units(&units, true))),
+        watched(|| number(streamname::decode_units(&units))),
+    ] {
+        assert_eq!((refused, left), (22, 0));
+        assert!(most < MEGABYTE as isize, "{most}");
+    }
+}
+
+#[test]
+fn a_load_that_is_refused_asks_for_nothing_that_it_does_not_need() {
+    let entries = 16_777_216;
+    let mut free = vec![0; 4 + 4 * entries];
+    assert_eq!(watched(|| number(StringPool::load(&free, &[]))), (3, 0, 0));
+    free.extend([0; 2]);
+    assert_eq!(watched(|| number(StringPool::load(&free, &[]))), (2, 0, 0));
+    // 5 is judged with the entries, and before there is room for texts.
+    let (data, stream) = (vec![b'A'; 64 * MEGABYTE], [&stream(9)[..], &[0, 0, 1, 0], &(65 * MEGABYTE as u32).to_le_bytes()].concat());
+    let (refused, most, left) = watched(|| number(StringPool::load(&stream, &data)));
+    assert_eq!((refused, left), (5, 0));
+    assert!(most < 1_000, "{most}");
+}
+
+#[test]
+fn a_pool_holds_what_its_streams_hold() {
+    let data = vec![b'A'; 64 * MEGABYTE];
+    let (pool, _, left) = watched(|| StringPool::load(&stream(1_000), &data).unwrap());
+    assert_eq!(left, 1_000 * (4 + 2 + 1));
+    drop(pool);
+}
+
+#[test]
+fn a_take_that_is_refused_leaves_no_room_behind() {
+    let mut pool = StringPool::new(1252).unwrap();
+    let first = pool.incref(b"A").unwrap();
+    let text = vec![b'B'; MAX_BYTES];
+    let (refused, most, left) = watched(|| number(pool.incref(&text)));
+    assert_eq!((refused, left), (6, 0));
+    assert!(most < 1_000, "{most}");
+    assert_eq!((pool.num_strings(), pool.get(first)), (1, &b"A"[..]));
+}
+
+#[test]
+fn the_largest_texts_are_taken_where_a_free_entry_makes_room() {
+    // A free entry of five bytes, and "A".
+    let mut pool = StringPool::load(&[0xe4, 4, 0, 0, 5, 0, 0, 0, 1, 0, 1, 0], b"XXXXXA").unwrap();
+    let text = vec![b'B'; MAX_BYTES];
+    let (refused, most, left) = watched(|| number(pool.incref(&text)));
+    assert_eq!((refused, left), (6, 0));
+    assert!(most < 1_000, "{most}");
+    assert_eq!(pool.incref(&text[1..]).unwrap().number(), 1);
+    assert_eq!(pool.get(StringRef::new(2).unwrap()), b"A");
+    assert!(pool.get(StringRef::new(1).unwrap()) == &text[1..]);
+    assert_eq!(number(pool.incref(b"C")), 6);
+}
+
+#[test]
+fn rows_beyond_their_number_are_14_without_memory() {
+    let table = Table::new(vec![Column::build().int32(); 8], false).unwrap();
+    let rows = vec![vec![ValueRef::Null; 8]; 65_537];
+    assert_eq!(watched(|| number(table.write_rows(&rows))), (14, 0, 0));
+}
+
+#[test]
+fn a_system_without_memory_is_a_refusal() {
+    let (stream, data) = (stream(100_000), vec![b'A'; 200_000]);
+    let mut pool = StringPool::load(&stream, &data).unwrap();
+    assert_eq!(with_largest(100_000, || number(StringPool::load(&stream, &data))), 4);
+    let (one, text) = ([0xe4, 4, 0, 0, 0, 0, 1, 0, 0x40, 0x42, 0x0f, 0], vec![b'A'; 1_000_000]);
+    assert_eq!(with_largest(600_000, || number(StringPool::load(&one, &text))), 6);
+    assert_eq!(with_largest(100_000, || number(pool.write_pool())), 7);
+    assert_eq!(with_largest(99_999, || number(pool.write_data())), 7);
+    assert_eq!(watched(|| with_largest(100_000, || number(pool.incref(b"B")))), (4, 0, 0));
+    assert_eq!(watched(|| with_largest(300_000, || number(pool.incref(b"B")))), (4, 0, 0));
+    // No memory for twice as much: what is needed is enough.
+    assert_eq!(with_largest(400_004, || pool.incref(b"B").unwrap().number()), 100_001);
+    assert_eq!(pool.get(StringRef::new(100_001).unwrap()), b"B");
+}

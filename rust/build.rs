@@ -1,8 +1,44 @@
-//! Links the archive of crates/msi. STRANDROOST_LIB names the folder that holds libmsi.a; by default it is where `desk/build port`
-//! puts it.
-fn main() {
-    let beside = concat!(env!("CARGO_MANIFEST_DIR"), "/../desk/out").to_string();
-    let folder = std::env::var("STRANDROOST_LIB").unwrap_or(beside);
-    println!("cargo:rustc-link-search=native={folder}");
+//! Links the archive of crates/msi, libmsi.a: in the folder that STRANDROOST_LIB names, or else where `rt staticlib msi` or where
+//! `desk/build archive` put it.
+use std::env::var;
+use std::path::{Path, PathBuf};
+use std::process::ExitCode;
+
+const MADE: [&str; 2] = ["target/staticlib", "desk/out"];
+
+/// The folder that has the archive, or a sentence that says what to do.
+fn found() -> Result<PathBuf, String> {
+    let target = ["ARCH", "OS", "POINTER_WIDTH"].map(|part| var(format!("CARGO_CFG_TARGET_{part}")).unwrap_or_default());
+    if target != ["x86_64", "linux", "64"] {
+        let asked = var("TARGET").unwrap_or_default();
+        return Err(format!("the archive is for x86-64 Linux, not for {asked}: build with --target x86_64-unknown-linux-gnu"));
+    }
+    let has_archive = |folder: &PathBuf| folder.join("libmsi.a").is_file();
+    if let Ok(named) = var("STRANDROOST_LIB") {
+        let missing = format!("STRANDROOST_LIB names '{named}', and there is no libmsi.a in it");
+        return Some(named.into()).filter(has_archive).ok_or(missing);
+    }
+    let here = var("CARGO_MANIFEST_DIR").unwrap_or_default();
+    let home = Path::new(&here).join("..");
+    let mut folders = MADE.map(|folder| home.join(folder)).into_iter();
+    folders.find(has_archive).ok_or(format!(
+        "there is no archive (libmsi.a) in {}: run 'rt staticlib msi' in the folder above this package, or name its folder by STRANDROOST_LIB",
+        MADE.join(" or ")
+    ))
+}
+
+fn main() -> ExitCode {
     println!("cargo:rerun-if-env-changed=STRANDROOST_LIB");
+    println!("cargo:rerun-if-changed=build.rs");
+    match found() {
+        Ok(folder) => {
+            println!("cargo:rustc-link-search=native={}", folder.display());
+            println!("cargo:rerun-if-changed={}", folder.join("libmsi.a").display());
+            ExitCode::SUCCESS
+        }
+        Err(sentence) => {
+            eprintln!("strandroost: {sentence}");
+            ExitCode::FAILURE
+        }
+    }
 }

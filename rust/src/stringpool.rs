@@ -8,9 +8,10 @@ use std::iter::{FusedIterator, Zip};
 use std::slice::Iter;
 use std::sync::OnceLock;
 
-/// The largest text room, and the most entries.
+/// The largest text room, the most entries, and for how many there is room at first.
 const MAX_BYTES: usize = 268_435_455;
 const MAX_ENTRIES: usize = StringRef::MAX as usize;
+const FEW: usize = 16;
 
 /// A reference to a text in the pool: its number, from 1 on.
 #[derive(Clone, Copy, Debug, PartialEq, Eq, Hash, PartialOrd, Ord)]
@@ -259,14 +260,20 @@ impl StringPool {
         reference
     }
 
+    /// Makes both rooms of the entries so long, or neither.
     fn widen_entries(&mut self, entries: usize) -> bool {
-        widen(&mut self.lengths, entries) && widen(&mut self.counts, entries)
+        let before = self.lengths.len();
+        let had = widen(&mut self.lengths, entries) && widen(&mut self.counts, entries);
+        if !had {
+            cut(&mut self.lengths, before);
+        }
+        had
     }
 
     /// Room for an entry more, or for twice as many. False where it cannot be had.
     fn grow_entries(&mut self) -> bool {
         let needed = self.state.num_strings + 1;
-        let twice = needed.max(2 * self.lengths.len()).max(16).min(MAX_ENTRIES);
+        let twice = needed.max(2 * self.lengths.len()).clamp(FEW, MAX_ENTRIES);
         self.widen_entries(twice) || self.widen_entries(needed)
     }
 

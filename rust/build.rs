@@ -21,10 +21,9 @@ fn found() -> Result<PathBuf, String> {
     let here = var("CARGO_MANIFEST_DIR").unwrap_or_default();
     let home = Path::new(&here).join("..");
     let mut folders = MADE.map(|folder| home.join(folder)).into_iter();
-    folders.find(has_archive).ok_or(format!(
-        "there is no archive (libmsi.a) in {}: run 'rt staticlib msi' in the folder above this package, or name its folder by STRANDROOST_LIB",
-        MADE.join(" or ")
-    ))
+    let missing = format!("there is no archive (libmsi.a) in {}", MADE.join(" or "));
+    let to_do = "run 'rt staticlib msi' in the folder above this package, or name the archive's folder by STRANDROOST_LIB";
+    folders.find(has_archive).ok_or(format!("{missing}: {to_do}"))
 }
 
 fn main() -> ExitCode {

@@ -1,5 +1,5 @@
-//! Stream names: packed into fewer UTF-16 units, and back. The crate's three names take and answer `str`; those that end in `_units`
-//! take any UTF-16 units, surrogates that stand alone too.
+//! Stream names: packed into fewer UTF-16 units, and back. The crate's three names take and answer `str`; those that end in
+//! `_units` take any UTF-16 units, surrogates that stand alone too.
 
 use crate::calls;
 use crate::refusal::Result;

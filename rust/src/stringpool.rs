@@ -95,6 +95,9 @@ pub(crate) fn width(long_string_refs: bool) -> usize {
 
 /// The string pool of a database: texts, each with how many references count on it.
 ///
+/// Nobody else writes its rooms, so the pool is sound, and one pass over it gives a view of all texts: [`texts`](StringPool::texts)
+/// walks it, and [`get`](StringPool::get) hands out parts of it.
+///
 /// It owns its rooms and lets them grow, so 4 and 6 reach a caller only where texts would pass 268,435,455 bytes (6), or where the
 /// system has no memory for entries (4) or texts (6). A call that is refused leaves the rooms as large as they were.
 ///
@@ -115,15 +118,15 @@ pub struct StringPool {
     lengths: Vec<u32>,
     counts: Vec<u16>,
     text: Vec<u8>,
-    /// Where each text begins: found by one pass when it is first asked for, and forgotten when texts move.
-    starts: OnceLock<Vec<u32>>,
+    /// Where each text begins and ends: found by one pass when it is first asked for, and forgotten when texts move.
+    bounds: OnceLock<Vec<u32>>,
 }
 
 impl StringPool {
     /// An empty pool with short references. Refused with 21.
     pub fn new(codepage: u32) -> Result<StringPool> {
         let state = calls::new(codepage)?;
-        Ok(StringPool { state, lengths: Vec::new(), counts: Vec::new(), text: Vec::new(), starts: OnceLock::new() })
+        Ok(StringPool { state, lengths: Vec::new(), counts: Vec::new(), text: Vec::new(), bounds: OnceLock::new() })
     }
 
     /// The pool of a pool stream and a data stream. Refused with 22, 1, 2, 3, 5, each before memory is asked for what it judges.
@@ -192,22 +195,21 @@ impl StringPool {
     /// The text of a reference, empty past the last entry. The first call after texts moved finds where each begins, by one pass;
     /// every other is an index.
     pub fn get(&self, reference: StringRef) -> &[u8] {
-        let place = reference.place();
-        match (self.starts().get(place), self.lengths.get(place)) {
-            (Some(start), Some(length)) => part(&self.text, *start as usize, *length as usize),
+        match self.bounds().get(reference.place()..reference.place() + 2) {
+            Some([start, end]) => self.text.get(*start as usize..*end as usize).unwrap_or_default(),
             _ => &[],
         }
     }
 
-    /// Where each text begins. The pool is sound, so no sum is above the largest text room.
-    fn starts(&self) -> &[u32] {
-        self.starts.get_or_init(|| {
+    /// Where each text begins, and last where the last one ends. The pool is sound, so no sum is above the largest text room.
+    fn bounds(&self) -> &[u32] {
+        self.bounds.get_or_init(|| {
             let mut end: u32 = 0;
-            let begin = |length: &u32| {
+            let ends = self.lengths().iter().map(|length| {
                 end = end.wrapping_add(*length);
-                end.wrapping_sub(*length)
-            };
-            self.lengths().iter().map(begin).collect()
+                end
+            });
+            std::iter::once(0).chain(ends).collect()
         })
     }
 
@@ -255,7 +257,7 @@ impl StringPool {
     /// After a take: no text moved where an equal one counted up, which leaves its count above 1.
     fn taken(&mut self, reference: StringRef) -> StringRef {
         if self.refcount(reference) == 1 {
-            self.starts.take();
+            self.bounds.take();
         }
         reference
     }
@@ -308,7 +310,7 @@ impl StringPool {
     pub fn decref(&mut self, reference: StringRef) -> Result<()> {
         self.state = calls::decref(self.state, self.rooms_mut(), reference.number())?;
         if self.refcount(reference) == 0 {
-            self.starts.take();
+            self.bounds.take();
         }
         Ok(())
     }
@@ -355,7 +357,7 @@ impl<'a> Iterator for Texts<'a> {
 
     fn next(&mut self) -> Option<Entry<'a>> {
         let (length, count) = self.entries.next()?;
-        let text = part(self.rest, 0, *length as usize);
+        let text = self.rest.get(..*length as usize).unwrap_or_default();
         self.rest = self.rest.get(text.len()..).unwrap_or_default();
         self.number += 1;
         Some(Entry { reference: StringRef(self.number), text, count: *count })
@@ -369,8 +371,3 @@ impl<'a> Iterator for Texts<'a> {
 impl ExactSizeIterator for Texts<'_> {}
 
 impl FusedIterator for Texts<'_> {}
-
-/// A part of the texts, which a sound pool has.
-fn part(text: &[u8], start: usize, length: usize) -> &[u8] {
-    text.get(start..start + length).unwrap_or_default()
-}

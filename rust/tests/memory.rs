@@ -8,44 +8,46 @@ use strandroost::{streamname, Column, StringPool, StringRef, Table, ValueRef};
 const MAX_BYTES: usize = 268_435_455;
 const MEGABYTE: usize = 1 << 20;
 
-/// The system's memory, with how much this thread holds, the most that it held, and the largest piece that it is given.
+/// The system's memory, with how much this thread holds, the most that it held, and the most that it may hold.
 struct Counted;
 
 thread_local! {
     static HELD: Cell<isize> = const { Cell::new(0) };
     static MOST: Cell<isize> = const { Cell::new(0) };
-    static LARGEST: Cell<usize> = const { Cell::new(usize::MAX) };
+    static LIMIT: Cell<isize> = const { Cell::new(isize::MAX) };
 }
 
-/// A piece of the system's in place of one of `before` bytes, counted; none where it would be too large.
+/// A piece of the system's in place of one of `before` bytes, counted; none where that would be too much.
 fn counted(before: usize, size: usize, give: impl FnOnce() -> *mut u8) -> *mut u8 {
-    if size > before && size > LARGEST.get() {
-        return std::ptr::null_mut();
-    }
-    let given = give();
+    let held = HELD.get() + size as isize - before as isize;
+    let given = if held > LIMIT.get() { std::ptr::null_mut() } else { give() };
     if !given.is_null() {
-        HELD.set(HELD.get() + size as isize - before as isize);
-        MOST.set(MOST.get().max(HELD.get()));
+        HELD.set(held);
+        MOST.set(MOST.get().max(held));
     }
     given
 }
 
-// SAFETY: every piece is the system's own, or none; each call hands on what its caller promises.
+// SAFETY: every piece is the system's own, or none.
 unsafe impl GlobalAlloc for Counted {
     unsafe fn alloc(&self, layout: Layout) -> *mut u8 {
+        // SAFETY: handed on as the caller promises.
         counted(0, layout.size(), || unsafe { System.alloc(layout) })
     }
 
     unsafe fn alloc_zeroed(&self, layout: Layout) -> *mut u8 {
+        // SAFETY: handed on as the caller promises.
         counted(0, layout.size(), || unsafe { System.alloc_zeroed(layout) })
     }
 
     unsafe fn realloc(&self, piece: *mut u8, layout: Layout, size: usize) -> *mut u8 {
+        // SAFETY: handed on as the caller promises.
         counted(layout.size(), size, || unsafe { System.realloc(piece, layout, size) })
     }
 
     unsafe fn dealloc(&self, piece: *mut u8, layout: Layout) {
         HELD.set(HELD.get() - layout.size() as isize);
+        // SAFETY: handed on as the caller promises.
         unsafe { System.dealloc(piece, layout) }
     }
 }
@@ -61,12 +63,12 @@ fn watched<T>(call: impl FnOnce() -> T) -> (T, isize, isize) {
     (answer, MOST.get() - before, HELD.get() - before)
 }
 
-/// A call in a system that gives no piece above a size.
-fn with_largest<T>(size: usize, call: impl FnOnce() -> T) -> T {
-    LARGEST.set(size);
-    let answer = call();
-    LARGEST.set(usize::MAX);
-    answer
+/// The same in a system that has so many bytes left.
+fn within<T>(bytes: isize, call: impl FnOnce() -> T) -> (T, isize) {
+    LIMIT.set(HELD.get() + bytes);
+    let (answer, _, left) = watched(call);
+    LIMIT.set(isize::MAX);
+    (answer, left)
 }
 
 fn number<T>(answer: Result<T, strandroost::Refusal>) -> u32 {
@@ -113,7 +115,8 @@ fn a_load_that_is_refused_asks_for_nothing_that_it_does_not_need() {
     free.extend([0; 2]);
     assert_eq!(watched(|| number(StringPool::load(&free, &[]))), (2, 0, 0));
     // 5 is judged with the entries, and before there is room for texts.
-    let (data, stream) = (vec![b'A'; 64 * MEGABYTE], [&stream(9)[..], &[0, 0, 1, 0], &(65 * MEGABYTE as u32).to_le_bytes()].concat());
+    let data = vec![b'A'; 64 * MEGABYTE];
+    let stream = [&stream(9)[..], &[0, 0, 1, 0], &(65 * MEGABYTE as u32).to_le_bytes()].concat();
     let (refused, most, left) = watched(|| number(StringPool::load(&stream, &data)));
     assert_eq!((refused, left), (5, 0));
     assert!(most < 1_000, "{most}");
@@ -129,13 +132,13 @@ fn a_pool_holds_what_its_streams_hold() {
 
 #[test]
 fn a_take_that_is_refused_leaves_no_room_behind() {
-    let mut pool = StringPool::new(1252).unwrap();
-    let first = pool.incref(b"A").unwrap();
+    // There is no room for another entry, so 4 comes before 6.
+    let mut pool = StringPool::load(&stream(1), b"A").unwrap();
     let text = vec![b'B'; MAX_BYTES];
     let (refused, most, left) = watched(|| number(pool.incref(&text)));
     assert_eq!((refused, left), (6, 0));
     assert!(most < 1_000, "{most}");
-    assert_eq!((pool.num_strings(), pool.get(first)), (1, &b"A"[..]));
+    assert_eq!((pool.num_strings(), pool.get(StringRef::new(1).unwrap())), (1, &b"A"[..]));
 }
 
 #[test]
@@ -161,16 +164,30 @@ fn rows_beyond_their_number_are_14_without_memory() {
 
 #[test]
 fn a_system_without_memory_is_a_refusal() {
-    let (stream, data) = (stream(100_000), vec![b'A'; 200_000]);
-    let mut pool = StringPool::load(&stream, &data).unwrap();
-    assert_eq!(with_largest(100_000, || number(StringPool::load(&stream, &data))), 4);
-    let (one, text) = ([0xe4, 4, 0, 0, 0, 0, 1, 0, 0x40, 0x42, 0x0f, 0], vec![b'A'; 1_000_000]);
-    assert_eq!(with_largest(600_000, || number(StringPool::load(&one, &text))), 6);
-    assert_eq!(with_largest(100_000, || number(pool.write_pool())), 7);
-    assert_eq!(with_largest(99_999, || number(pool.write_data())), 7);
-    assert_eq!(watched(|| with_largest(100_000, || number(pool.incref(b"B")))), (4, 0, 0));
-    assert_eq!(watched(|| with_largest(300_000, || number(pool.incref(b"B")))), (4, 0, 0));
-    // No memory for twice as much: what is needed is enough.
-    assert_eq!(with_largest(400_004, || pool.incref(b"B").unwrap().number()), 100_001);
-    assert_eq!(pool.get(StringRef::new(100_001).unwrap()), b"B");
+    let (stream, data) = (stream(100_000), vec![b'A'; 100_000]);
+    for (bytes, refused) in [(399_999, 4), (599_999, 4), (699_999, 6)] {
+        assert_eq!(within(bytes, || number(StringPool::load(&stream, &data))), (refused, 0));
+    }
+    let (pool, left) = within(700_000, || StringPool::load(&stream, &data).unwrap());
+    assert_eq!(left, 700_000);
+    assert_eq!(within(800_003, || number(pool.write_pool())), (7, 0));
+    assert_eq!(within(99_999, || number(pool.write_data())), (7, 0));
+    let table = Table::from_bitfields(&[0x502], false).unwrap();
+    assert_eq!(within(9_999, || number(table.read_rows(&data[..20_000]))), (7, 0));
+}
+
+#[test]
+fn rooms_grow_twofold_where_there_is_memory_and_by_what_is_needed_where_there_is_not() {
+    let loaded = StringPool::load(&stream(100_000), &vec![b'A'; 100_000]).unwrap();
+    // An entry takes six bytes, and the text one.
+    for (bytes, refused) in [(5, 4), (6, 6)] {
+        let mut pool = loaded.clone();
+        assert_eq!(within(bytes, || number(pool.incref(b"B"))), (refused, 0));
+    }
+    // Room for twice as many lengths, and not for the counts beside them, is room for neither.
+    for (bytes, held) in [(7, 7), (500_000, 100_006), (700_000, 700_000)] {
+        let mut pool = loaded.clone();
+        assert_eq!(within(bytes, || pool.incref(b"B").unwrap().number()), (100_001, held));
+        assert_eq!(pool.get(StringRef::new(100_001).unwrap()), b"B");
+    }
 }

@@ -148,7 +148,8 @@ fn names_go_by_str_and_by_units() {
 
 #[test]
 fn values_are_made_from_what_a_caller_has() {
-    assert_eq!((Value::from(true), Value::from(-7i16), Value::from(40_000u16)), (Value::Int(1), Value::Int(-7), Value::Int(40_000)));
+    let numbers = [Value::from(true), Value::from(-7i16), Value::from(40_000u16), Value::from(-40_000)];
+    assert_eq!(numbers.map(|number| number.as_int()), [Some(1), Some(-7), Some(40_000), Some(-40_000)]);
     let text = Value::Str(b"Arial".to_vec());
     for made in [Value::from("Arial"), String::from("Arial").into(), b"Arial"[..].into(), b"Arial".to_vec().into()] {
         assert_eq!(made, text);

@@ -21,6 +21,8 @@ mod internal {
     pub mod value;
 }
 
+mod file_table;
+
 use internal::column::Column;
 use internal::streamname;
 use internal::stringpool::{StringPool, StringPoolBuilder, StringRef};
@@ -291,6 +293,22 @@ fn bench_table(rows: usize) {
     assert!(out == stream, "the port wrote another stream");
 }
 
+// ------------------------------------------------- every cell as a value
+
+/// The packer's walk, with the pool loaded beforehand and with its load.
+fn bench_walk(files: usize) {
+    let package = file_table::Package::new(files);
+    assert_eq!(package.by_crate(&package.crate_load()), package.by_port(&package.port_load()), "the walks differ");
+    let by_crate = |pool: &mut StringPool, ()| drop(black_box(package.by_crate(pool)));
+    let by_port = |pool: &mut strandroost::StringPool, ()| drop(black_box(package.by_port(pool)));
+    let krate = timed_on(&mut package.crate_load(), 1, |pool| *pool = package.crate_load(), || (), by_crate);
+    let port = timed_on(&mut package.port_load(), 1, |pool| *pool = package.port_load(), || (), by_port);
+    show("walk over every cell", 8 * files, krate, port);
+    let krate = timed(1, || (), |()| drop(black_box(package.by_crate(&package.crate_load()))));
+    let port = timed(1, || (), |()| drop(black_box(package.by_port(&package.port_load()))));
+    show("load, and walk over every cell", 8 * files, krate, port);
+}
+
 /// With `--quick` the largest sizes are left out.
 fn main() {
     let sizes = if std::env::args().any(|word| word == "--quick") { 2 } else { 3 };
@@ -299,4 +317,5 @@ fn main() {
     for rows in &[1_000, 10_000, 65_536][..sizes] {
         bench_table(*rows);
     }
+    bench_walk(34_000);
 }

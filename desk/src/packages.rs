@@ -1,246 +1,288 @@
 //! `desk/packages`: real packages taken apart and put together again, with the crate beside the port at every step.
-//! Arguments: the words that start the crate's side, `--`, those that start the port's, `--`, and the packages.
-//! The container is read by gsf (Debian's libgsf-bin), which lists the streams by their stored names and writes one out raw.
+//! Arguments, with `--` between: the words that start the crate's side, the port's side and the container's reader; the options;
+//! the packages.
+mod container;
+mod findings;
+mod judge;
 #[allow(dead_code)]
 mod language;
+mod layouts;
 mod pipes;
+mod progress;
+mod reading;
+#[allow(dead_code)]
+#[path = "../../rust/src/refusal.rs"]
+mod refusal;
+mod report;
+mod shown;
+mod walk;
 
-use language::{bytes_of, put_bytes, put_units, units_of};
-use pipes::Both;
-use std::collections::BTreeMap;
-use std::process::Command;
+use pipes::{Both, Side, ENDED};
+use progress::Progress;
+use refusal::Place;
+use report::Report;
+use std::ffi::{OsStr, OsString};
+use std::io::Write;
+use std::os::unix::ffi::OsStrExt;
+use std::path::Path;
+use std::time::Instant;
+use walk::{Pages, Tally, Walk};
 
-/// Table, Number, Name, Type: the layout of `_Columns` itself.
-const COLUMNS_LAYOUT: &str = "11584,9474,3392,1282";
-/// Values are shown through the pool, text by text, for tables of at most so many cells.
-const SHOWN_CELLS: usize = 2_000;
-
-struct Stream {
-    stored: String,
-    is_table: bool,
-    name: String,
+struct Options {
+    krate: Vec<OsString>,
+    port: Vec<OsString>,
+    reader: Vec<OsString>,
+    counts: bool,
+    report: Option<Report>,
+    files: Vec<OsString>,
 }
 
-/// What was seen of a package.
+/// The sums over all packages.
 #[derive(Default)]
-struct Tally {
-    streams: usize,
-    entries: usize,
-    tables: usize,
-    rows: usize,
-    cells: usize,
-    agreed: usize,
-    differed: usize,
-    identical: usize,
-    rewritten: usize,
-    /// The crate does not keep the code page: the package lies outside the differential domain.
-    outside: bool,
-    notes: Vec<String>,
-}
-
-struct Package<'a> {
-    file: &'a str,
-    both: &'a mut Both,
+struct Totals {
+    packages: usize,
+    unread: usize,
     tally: Tally,
+    expected: usize,
+    differed: usize,
+    not_read: usize,
 }
 
-type Found<T> = Result<T, String>;
-
-fn gsf(words: &[&str]) -> Found<Vec<u8>> {
-    let output = Command::new("gsf").args(words).output().map_err(|error| format!("gsf (libgsf-bin): {error}"))?;
-    if output.status.success() {
-        return Ok(output.stdout);
-    }
-    Err(format!("gsf {}: {}", words.join(" "), String::from_utf8_lossy(&output.stderr).trim()))
+fn say(text: &str) {
+    // A reader that went away is no reason to panic.
+    let _ = writeln!(std::io::stdout(), "{text}");
 }
 
-fn word_bytes(bytes: &[u8]) -> String {
-    let mut word = String::new();
-    put_bytes(bytes, &mut word);
-    word
+fn stop(why: &str) -> ! {
+    eprintln!("desk: {why}");
+    std::process::exit(2);
 }
 
-fn word_units(text: &str) -> String {
-    let units: Vec<u16> = text.encode_utf16().collect();
-    let mut word = String::new();
-    put_units(&units, &mut word);
-    word
-}
-
-/// A command as it is shown in a note.
-fn shortened(line: &str) -> String {
-    match line.char_indices().nth(90) {
-        Some((end, _)) => format!("{}..", &line[..end]),
-        None => line.to_string(),
-    }
-}
-
-/// Why a stream was not written back as it was.
-fn why(was: &[u8], written: &[u8]) -> String {
-    if was.starts_with(written) {
-        return format!("{} bytes past the end are not kept", was.len() - written.len());
-    }
-    let at = was.iter().zip(written).take_while(|(a, b)| a == b).count();
-    format!("{} bytes became {}, and byte {at} differs", was.len(), written.len())
-}
-
-impl Package<'_> {
-    /// Asks both sides; the port's answer, and whether the crate gave the same.
-    fn ask(&mut self, line: String) -> Found<Vec<String>> {
-        let (krate, port) = self.both.ask(std::slice::from_ref(&line));
-        if krate[0] == "(ended)" || port[0] == "(ended)" {
-            return Err(format!("a side ended at: {}", shortened(&line)));
-        }
-        if krate == port {
-            self.tally.agreed += 1;
-        } else {
-            self.tally.differed += 1;
-            let (krate, port) = (shortened(&krate[0]), shortened(&port[0]));
-            self.tally.notes.push(format!("differed: {}\n      crate: {krate}\n      port:  {port}", shortened(&line)));
-        }
-        Ok(port[0].split(' ').map(String::from).collect())
-    }
-
-    /// The words after `ok`, at least so many.
-    fn given(&mut self, line: String, words: usize) -> Found<Vec<String>> {
-        let shown = shortened(&line);
-        let answer = self.ask(line)?;
-        if answer[0] != "ok" || answer.len() <= words {
-            return Err(format!("{shown}: {}", answer.join(" ")));
-        }
-        Ok(answer[1..].to_vec())
-    }
-
-    fn streams(&mut self) -> Found<Vec<Stream>> {
-        let listing = String::from_utf8(gsf(&["list", self.file])?).map_err(|_| "a stream's name is no text".to_string())?;
-        let mut streams = Vec::new();
-        for line in listing.lines().filter_map(|line| line.strip_prefix("f ")) {
-            // The size is right-aligned; the name is all that follows it.
-            let Some((_, stored)) = line.trim_start().split_once(' ') else { continue };
-            let units = word_units(stored);
-            let decoded = self.given(format!("dec {units}"), 2)?;
-            self.given(format!("enc {} {}", decoded[0], decoded[1]), 1)?;
-            self.given(format!("valid {} {}", decoded[0], decoded[1]), 1)?;
-            let name = String::from_utf16_lossy(&units_of(&decoded[1]).unwrap_or_default());
-            streams.push(Stream { stored: stored.into(), is_table: decoded[0] == "1", name });
-        }
-        self.tally.streams = streams.len();
-        Ok(streams)
-    }
-
-    fn raw(&self, streams: &[Stream], name: &str) -> Found<Vec<u8>> {
-        match streams.iter().find(|stream| stream.is_table && stream.name == name) {
-            Some(stream) => gsf(&["cat", self.file, &stream.stored]),
-            None => Ok(Vec::new()),
-        }
-    }
-
-    fn rewritten(&mut self, what: &str, was: &[u8], word: &str) {
-        let written = bytes_of(word).unwrap_or_default();
-        self.tally.rewritten += 1;
-        if was == written {
-            self.tally.identical += 1;
-        } else {
-            self.tally.notes.push(format!("{what} not identical: {}", why(was, &written)));
-        }
-    }
-
-    /// Loads the pool and writes it again; whether references are long.
-    fn pool(&mut self, streams: &[Stream]) -> Found<String> {
-        let (pool, data) = (self.raw(streams, "_StringPool")?, self.raw(streams, "_StringData")?);
-        let before = self.tally.differed;
-        let state = self.given(format!("load {} {}", word_bytes(&pool), word_bytes(&data)), 3)?;
-        if self.tally.differed > before {
-            self.tally.outside = true;
-            self.tally.notes.push(format!("outside the domain: the crate does not keep code page {}", state[0]));
-        }
-        self.tally.entries = state[2].parse().unwrap_or(0);
-        let written = self.given("wpool".into(), 1)?;
-        self.rewritten("_StringPool", &pool, &written[0]);
-        let written = self.given("wdata".into(), 1)?;
-        self.rewritten("_StringData", &data, &written[0]);
-        Ok(state[1].clone())
-    }
-
-    /// The cells of a stream by a layout, written again.
-    fn table(&mut self, name: &str, long: &str, layout: &str, stream: &[u8]) -> Found<Vec<String>> {
-        let columns = layout.split(',').count();
-        let read = self.given(format!("read {long} {layout} {}", word_bytes(stream)), 2)?;
-        let rows: usize = read[0].parse().unwrap_or(0);
-        if rows * columns <= SHOWN_CELLS {
-            self.given(format!("rows {long} {layout} {}", word_bytes(stream)), 2)?;
-        }
-        let written = self.given(format!("write {long} {layout} {rows} {}", read[1]), 1)?;
-        self.rewritten(name, stream, &written[0]);
-        self.tally.tables += 1;
-        self.tally.rows += rows;
-        self.tally.cells += rows * columns;
-        Ok(if rows == 0 { Vec::new() } else { read[1].split(',').map(String::from).collect() })
-    }
-
-    fn text(&mut self, cell: &str) -> Found<String> {
-        let Some(reference) = cell.strip_prefix('s') else { return Ok(String::new()) };
-        let shown = self.given(format!("show {reference}"), 1)?;
-        Ok(String::from_utf8_lossy(&bytes_of(&shown[0]).unwrap_or_default()).into_owned())
-    }
-
-    /// The bitfields of each table's columns, in the order of their numbers.
-    fn layouts(&mut self, cells: &[String]) -> Found<BTreeMap<String, String>> {
-        let mut columns: BTreeMap<String, BTreeMap<i32, String>> = BTreeMap::new();
-        for row in cells.chunks_exact(4) {
-            let number = row[1].trim_start_matches('i').parse().unwrap_or(0);
-            let bits = row[3].trim_start_matches('i').to_string();
-            columns.entry(row[0].clone()).or_default().insert(number, bits);
-        }
-        let mut layouts = BTreeMap::new();
-        for (table, bits) in columns {
-            layouts.insert(self.text(&table)?, bits.into_values().collect::<Vec<_>>().join(","));
-        }
-        Ok(layouts)
-    }
-
-    fn taken_apart(&mut self) -> Found<()> {
-        let streams = self.streams()?;
-        let long = self.pool(&streams)?;
-        let columns = self.raw(&streams, "_Columns")?;
-        let cells = self.table("_Columns", &long, COLUMNS_LAYOUT, &columns)?;
-        let tables = self.raw(&streams, "_Tables")?;
-        self.table("_Tables", &long, "11584", &tables)?;
-        for (name, layout) in self.layouts(&cells)? {
-            let stream = self.raw(&streams, &name)?;
-            self.table(&name, &long, &layout, &stream)?;
-        }
-        Ok(())
-    }
-}
-
-fn row(cells: [&str; 9]) {
-    println!("{:<28} {:>8} {:>8} {:>7} {:>8} {:>9} {:>8} {:>9}  {}", cells[0], cells[1], cells[2], cells[3], cells[4], cells[5], cells[6], cells[7], cells[8]);
-}
-
-fn main() -> std::io::Result<()> {
-    let words: Vec<String> = std::env::args().skip(1).collect();
-    let parts: Vec<&[String]> = words.splitn(3, |word| word == "--").collect();
-    let [krate, port, files] = parts[..] else {
-        eprintln!("usage: desk/packages [FILE.msi..]");
-        std::process::exit(2);
+fn options() -> Options {
+    let words: Vec<OsString> = std::env::args_os().skip(1).collect();
+    let parts: Vec<Vec<OsString>> = words.splitn(5, |word| word == "--").map(<[OsString]>::to_vec).collect();
+    let Ok([krate, port, reader, settings, files]) = <[Vec<OsString>; 5]>::try_from(parts) else {
+        stop("started as: CRATE.. -- PORT.. -- READER.. -- [--report FOLDER] [--counts] -- FILE..; desk/packages does so");
     };
-    row(["package", "streams", "entries", "tables", "rows", "cells", "agreed", "differed", "rewritten"]);
-    let mut good = true;
-    for file in files {
-        let mut both = Both::start(krate, port)?;
-        let mut package = Package { file, both: &mut both, tally: Tally::default() };
-        let end = package.taken_apart();
-        let Tally { streams, entries, tables, rows, cells, agreed, differed, identical, rewritten, outside, mut notes } = package.tally;
-        let name = file.rsplit('/').next().unwrap_or(file);
-        let counts = [streams, entries, tables, rows, cells, agreed, differed].map(|count| count.to_string());
-        let kept = format!("{identical} of {rewritten} streams identical");
-        row([name, &counts[0], &counts[1], &counts[2], &counts[3], &counts[4], &counts[5], &counts[6], &kept]);
-        notes.extend(end.err());
-        good &= (differed == 0 || outside) && rewritten > 2;
-        for note in notes {
-            println!("    {note}");
+    let counts = settings.iter().any(|word| word == "--counts");
+    let folder = settings.iter().position(|word| word == "--report").and_then(|at| settings.get(at + 1));
+    let report = folder.map(|folder| match Report::begin(Path::new(folder)) {
+        Ok(report) => report,
+        Err(error) => stop(&format!("no report in {}: {error}", folder.to_string_lossy())),
+    });
+    Options { krate, port, reader, counts, report, files }
+}
+
+fn name_of(file: &OsStr) -> &OsStr {
+    Path::new(file).file_name().unwrap_or(file)
+}
+
+/// Both sides, running: each has answered once.
+fn sides(options: &Options) -> Result<Both, String> {
+    let mut raw = options.krate.clone();
+    raw.push("--raw".into());
+    let mut both = Both::start(&raw, &options.port).map_err(|error| format!("a side does not start: {error}"))?;
+    let (krate, port) = both.ask(&["state".into()]);
+    match (krate[0].as_str(), port[0].as_str()) {
+        (ENDED, _) => Err("the crate's side does not answer".into()),
+        (_, ENDED) => Err("the port's side does not answer".into()),
+        _ => Ok(both),
+    }
+}
+
+fn row(name: &str, cells: [String; 9], result: &str) -> String {
+    let [streams, tables, without, rows, cells, expected, differed, identical, seconds] = cells;
+    format!("{name:<24} {streams:>7} {tables:>6} {without:>9} {rows:>7} {cells:>8} {identical:>9} {expected:>8} {differed:>8} {seconds:>7}  {result}")
+}
+
+fn figures(tally: &Tally, expected: usize, differed: usize, begun: Instant) -> [String; 9] {
+    let Tally { streams, tables, without_stream, rows, cells, identical, rewritten, .. } = tally;
+    let counts = [streams, tables, without_stream, rows, cells, &expected, &differed].map(usize::to_string);
+    let [a, b, c, d, e, f, g] = counts;
+    [a, b, c, d, e, f, g, format!("{identical}/{rewritten}"), format!("{:.1}", begun.elapsed().as_secs_f64())]
+}
+
+fn result_of(walk: &Walk) -> &'static str {
+    let findings = &walk.findings;
+    match () {
+        () if findings.differed > 0 => "DIFFERS",
+        () if !findings.not_read.is_empty() => "not all read",
+        () if walk.refusal.is_some() => "refused alike",
+        () if !findings.expected.is_empty() => "agrees, but for what is expected",
+        () => "agrees",
+    }
+}
+
+fn place_words(place: Place) -> String {
+    match place {
+        Place::Nowhere => String::new(),
+        Place::Column(column) => format!("column {column}"),
+        Place::Cell { row, column } => format!("row {row}, column {column}"),
+    }
+}
+
+/// The lines of a package in the report.
+fn write_report(report: &mut Report, file: &str, walk: &Walk) -> std::io::Result<()> {
+    for seen in &walk.seen {
+        let sum = |bytes: &Option<Vec<u8>>| bytes.as_ref().map_or(Ok(String::new()), |bytes| report::sha256(bytes));
+        let columns = seen.layout.columns.len();
+        let refusal = seen.refusal.as_ref();
+        report.table(&[
+            file.into(),
+            seen.layout.name(),
+            seen.rows.to_string(),
+            columns.to_string(),
+            (seen.rows * columns).to_string(),
+            refusal.map_or(String::new(), |refusal| refusal.number().to_string()),
+            refusal.map_or(String::new(), |refusal| place_words(refusal.place())),
+            refusal.map_or(String::new(), |refusal| refusal.sentence().into()),
+            seen.result.clone(),
+            sum(&seen.before)?,
+            sum(&seen.after)?,
+        ])?;
+    }
+    let (page, long, entries) = walk.head.map_or(Default::default(), |(page, long, entries)| {
+        (page.to_string(), if long { "yes" } else { "no" }.to_string(), entries.to_string())
+    });
+    let tally = &walk.tally;
+    report.package(&[
+        file.into(),
+        walk.folder.as_ref().map_or(String::new(), |folder| folder.name.clone()),
+        result_of(walk).into(),
+        walk.refusal.map_or(String::new(), |refusal| refusal.number().to_string()),
+        walk.refusal.map_or(walk.findings.not_read.join("; "), |refusal| refusal.sentence().into()),
+        page,
+        long,
+        entries,
+        tally.streams.to_string(),
+        tally.table_streams.to_string(),
+        tally.tables.to_string(),
+        tally.without_stream.to_string(),
+        tally.refused.to_string(),
+        walk.findings.not_read.len().to_string(),
+        tally.rows.to_string(),
+        tally.cells.to_string(),
+        tally.rewritten.to_string(),
+        tally.identical.to_string(),
+        walk.findings.expected_count().to_string(),
+        walk.findings.differed.to_string(),
+    ])
+}
+
+/// A package that was not opened: a line in words, and one in the report.
+fn unread(options: &mut Options, file: &OsStr, why: &str) {
+    let name = name_of(file).to_string_lossy();
+    say(&format!("{name:<24} not read: {why}"));
+    if let Some(report) = &mut options.report {
+        let mut fields: [String; 20] = Default::default();
+        fields[0] = file.to_string_lossy().into_owned();
+        fields[2] = "not read".into();
+        fields[4] = why.into();
+        if let Err(error) = report.package(&fields) {
+            stop(&format!("the report cannot be written: {error}"));
         }
     }
-    std::process::exit(i32::from(!good));
+}
+
+fn counts_lines(walk: &Walk) -> Vec<String> {
+    let mut lines = vec![format!("counts: {} entries whose count is not the number of cells that name them", walk.miscounted.len())];
+    for wrong in &walk.miscounted {
+        lines.push(format!("counts: reference {}, \"{}\": count {}, cells {}", wrong.reference, wrong.text, wrong.count, wrong.cells));
+    }
+    if !walk.findings.not_read.is_empty() || walk.tally.refused > 0 {
+        lines.push("counts: of the tables that were read; not all were".into());
+    }
+    lines
+}
+
+/// One package: walked, its line and what is under it said, its part of the report written.
+fn package(options: &mut Options, file: &OsStr, pages: &mut Pages, progress: &Progress) -> Result<Totals, String> {
+    let begun = Instant::now();
+    let streams = container::streams(&options.reader, file)?;
+    let name = name_of(file).to_string_lossy().into_owned();
+    let mut walk = Walk::new(name.clone(), sides(options)?, pages, streams, progress.clone());
+    if let Some(report) = &mut options.report {
+        walk.folder = Some(report.folder(name_of(file).as_bytes()).map_err(|error| format!("the report: {error}"))?);
+    }
+    // A side that ended has been noted as a difference.
+    let _ = walk.taken_apart();
+    let (expected, differed) = (walk.findings.expected_count(), walk.findings.differed);
+    say(&row(&name, figures(&walk.tally, expected, differed, begun), result_of(&walk)));
+    let counts = if options.counts { counts_lines(&walk) } else { Vec::new() };
+    for line in walk.findings.lines().iter().chain(&counts) {
+        say(&format!("    {line}"));
+    }
+    if let Some(report) = &mut options.report {
+        write_report(report, &file.to_string_lossy(), &walk).map_err(|error| format!("the report: {error}"))?;
+    }
+    Ok(Totals { packages: 1, unread: 0, tally: walk.tally.clone(), expected, differed, not_read: walk.findings.not_read.len() })
+}
+
+impl Totals {
+    fn add(&mut self, other: Totals) {
+        let (sum, more) = (&mut self.tally, other.tally);
+        sum.streams += more.streams;
+        sum.table_streams += more.table_streams;
+        sum.tables += more.tables;
+        sum.without_stream += more.without_stream;
+        sum.refused += more.refused;
+        sum.rows += more.rows;
+        sum.cells += more.cells;
+        sum.rewritten += more.rewritten;
+        sum.identical += more.identical;
+        self.packages += other.packages;
+        self.expected += other.expected;
+        self.differed += other.differed;
+        self.not_read += other.not_read;
+    }
+
+    fn say(&self, begun: Instant) {
+        let Totals { packages, unread, tally, expected, differed, not_read } = self;
+        say(&row("in all", figures(tally, *expected, *differed, begun), ""));
+        say(&format!(
+            "{packages} packages read, {unread} not; {} streams are there, {} of them tables'; {} tables listed, {} of them without a stream, \
+             {} refused, {not_read} things not read; {} rows, {} cells; {} of {} streams written back identically; \
+             {expected} expected departures, {differed} differences; {:.1} seconds",
+            tally.streams, tally.table_streams, tally.tables, tally.without_stream, tally.refused, tally.rows, tally.cells,
+            tally.identical, tally.rewritten, begun.elapsed().as_secs_f64()
+        ));
+    }
+
+    /// A difference is graver than what was not read.
+    fn exit(&self) -> i32 {
+        match () {
+            () if self.differed > 0 => 1,
+            () if self.unread > 0 || self.not_read > 0 => 2,
+            () => 0,
+        }
+    }
+}
+
+fn main() {
+    let begun = Instant::now();
+    let mut options = options();
+    let mut pages = match Side::start(&options.krate) {
+        Ok(side) => Pages::new(side),
+        Err(error) => stop(&format!("the crate's side does not start: {error}")),
+    };
+    let progress = Progress::start();
+    let titles = ["streams", "tables", "no stream", "rows", "cells", "expected", "differed", "identical", "seconds"];
+    say(&row("package", titles.map(String::from), "result"));
+    let mut totals = Totals::default();
+    let files = std::mem::take(&mut options.files);
+    for (at, file) in files.iter().enumerate() {
+        let name = name_of(file).to_string_lossy();
+        eprintln!("desk: package {} of {}: {name}", at + 1, files.len());
+        progress.begin(format!("{name}: its container"));
+        match package(&mut options, file, &mut pages, &progress) {
+            Ok(seen) => totals.add(seen),
+            Err(why) => {
+                totals.unread += 1;
+                unread(&mut options, file, &why);
+            }
+        }
+    }
+    progress.begin(String::new());
+    totals.say(begun);
+    std::process::exit(totals.exit());
 }

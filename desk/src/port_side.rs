@@ -2,6 +2,7 @@
 //! suffices.
 use crate::language::{self, Answer, Cell, Command, Held, Made, Place, Spec, Type, Value};
 use strandroost::calls::{self, ColumnParts, KindAndNumber, Layout, Rooms, RoomsMut, State};
+use std::collections::HashMap;
 use strandroost::Refusal;
 
 /// What lent memory holds before a call writes it.
@@ -20,6 +21,19 @@ pub struct PortSide {
     /// The places of an output, where `out` set them.
     places: Option<usize>,
     out: Vec<u8>,
+    /// The texts that `rows` has shown of this pool, by reference: every call on a text judges the whole pool.
+    shown: HashMap<i32, Vec<u8>>,
+    /// Whether `rows` has asked the pool for a value that is no text.
+    judged: bool,
+}
+
+/// Whether a command may change the pool, its rooms or the outputs, and so what a value is shown as.
+fn changes(command: &Command) -> bool {
+    use Command::*;
+    matches!(
+        command,
+        New(_) | Load(..) | Page(_) | Take(_) | Drop(_) | Create(_) | Remove(_) | Lend(_) | Out(_) | Pool(..)
+    )
 }
 
 fn place_out(place: strandroost::Place) -> Place {
@@ -149,10 +163,16 @@ impl PortSide {
             lent: false,
             places: None,
             out: Vec::new(),
+            shown: HashMap::new(),
+            judged: false,
         })
     }
 
     pub fn answer(&mut self, command: Command) -> Answer {
+        if changes(&command) {
+            self.shown.clear();
+            self.judged = false;
+        }
         match self.asked(command) {
             Ok(answer) => answer,
             Err(refusal) => Answer::Refused(refusal.number(), place_out(refusal.place())),
@@ -370,13 +390,37 @@ impl PortSide {
         Ok(Answer::Cells(rows, cells.collect()))
     }
 
+    /// A cell's value among many of one pool: each text is asked for once, and of the other values the first.
+    fn value_again(&mut self, cell: KindAndNumber) -> Asked<Value> {
+        if self.places.is_some() {
+            return self.value(cell);
+        }
+        if let Some(text) = self.shown.get(&cell.number).filter(|_| cell.kind == 2) {
+            self.out.clone_from(text);
+            return Ok(Value::Text(text.clone()));
+        }
+        match cell_out(cell.kind, cell.number) {
+            Cell::Null if self.judged => Ok(Value::Null),
+            Cell::Int(number) if self.judged => Ok(Value::Int(number)),
+            Cell::Binary if self.judged => Ok(Value::Binary),
+            _ => {
+                let value = self.value(cell)?;
+                match &value {
+                    Value::Text(text) => drop(self.shown.insert(cell.number, text.clone())),
+                    _ => self.judged = true,
+                }
+                Ok(value)
+            }
+        }
+    }
+
     /// By the row reader, which is asked once more after the end.
     fn values(&mut self, layout: &Layout, stream: &[u8]) -> Asked<Answer> {
         let (rows, mut values, mut at) = (calls::num_rows(layout, stream)?, Vec::new(), 0);
         loop {
             let step = calls::rows_next(layout, stream, at)?;
             match step.cell {
-                Some(cell) => values.push(self.value(cell)?),
+                Some(cell) => values.push(self.value_again(cell)?),
                 None if calls::rows_next(layout, stream, step.at)? == step => return Ok(Answer::Values(rows, values)),
                 None => return Ok(Answer::Bad),
             }

@@ -85,7 +85,7 @@ impl Findings {
         lines.extend(self.not_read.iter().map(|why| format!("not read: {why}")));
         for (rule, Met { count, first }) in &self.expected {
             let times = if *count == 1 { "once".into() } else { format!("{count} times, first") };
-            lines.push(format!("expected: {}: {times} at {first} (docs/DIFFERENCES.md: {})", rule.words(), rule.row()));
+            lines.push(format!("expected: {}: {times} at {first} (docs/DIFFERENCES.md: `{}`)", rule.words(), rule.row()));
         }
         lines.extend(self.notes.iter().cloned());
         lines

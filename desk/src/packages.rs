@@ -109,6 +109,7 @@ fn result_of(walk: &Walk) -> &'static str {
         () if !findings.not_read.is_empty() => "not all read",
         () if walk.refusal.is_some() => "refused alike",
         () if !findings.expected.is_empty() => "agrees, but for what is expected",
+        () if walk.tally.refused > 0 => "agrees, with tables refused alike",
         () => "agrees",
     }
 }
@@ -240,9 +241,9 @@ impl Totals {
         let Totals { packages, unread, tally, expected, differed, not_read } = self;
         say(&row("in all", figures(tally, *expected, *differed, begun), ""));
         say(&format!(
-            "{packages} packages read, {unread} not; {} streams are there, {} of them tables'; {} tables listed, {} of them without a stream, \
-             {} refused, {not_read} things not read; {} rows, {} cells; {} of {} streams written back identically; \
-             {expected} expected departures, {differed} differences; {:.1} seconds",
+            "packages: {packages} read, {unread} not; streams: {} are there, {} of them of tables; tables: {} listed, {} of them without a \
+             stream, {} refused, {not_read} not read; {} rows, {} cells; {} of {} streams written back identically; \
+             departures: {expected} expected, {differed} not; {:.1} seconds",
             tally.streams, tally.table_streams, tally.tables, tally.without_stream, tally.refused, tally.rows, tally.cells,
             tally.identical, tally.rewritten, begun.elapsed().as_secs_f64()
         ));

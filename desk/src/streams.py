@@ -22,6 +22,7 @@ import sys
 import olefile
 
 TABLE = b"\x40\x48"
+LETTERS = "0123456789ABCDEFGHIJKLMNOPQRSTUVWXYZabcdefghijklmnopqrstuvwxyz._"
 # What olefile notes of a container and reads all the same, losing nothing: header fields that do not matter, names that are equal
 # but for their case (they are told apart by their units here).
 HARMLESS = ("in OLE header", "incorrect OLE header (", "Duplicate filename", "OLE storage with size>0")
@@ -33,6 +34,17 @@ class Wrong(Exception):
     def __init__(self, code, why):
         super().__init__(why)
         self.code = code
+
+
+def spoken(units):
+    """The name that a stored name stands for, for a person; ill-formed units as they are."""
+    name = ""
+    for unit in units:
+        if 0x3800 <= unit < 0x4800:
+            name += LETTERS[unit & 63] + LETTERS[(unit - 0x3800) >> 6]
+        elif unit != 0x4840:
+            name += LETTERS[unit & 63] if 0x4800 <= unit < 0x4840 else "%c" % unit
+    return ascii(name)[1:-1]
 
 
 def opened(path):
@@ -119,12 +131,14 @@ class Streams:
 
     def line(self, entry):
         name = entry.name_raw[: max(entry.namelength - 2, 0)]
-        units = "".join("%02x%02x" % (name[at + 1], name[at]) for at in range(0, len(name) - 1, 2)) or "-"
+        units = [name[at] | name[at + 1] << 8 for at in range(0, len(name) - 1, 2)]
+        what = "stream " + spoken(units)
         wanted = name.startswith(TABLE)
-        content = self.bytes(entry, "stream " + units, wanted)
+        content = self.bytes(entry, what, wanted)
         if wanted and len(content) != entry.size:
-            raise Wrong(7, "it is damaged: stream %s has %d bytes, and %d are there" % (units, entry.size, len(content)))
-        return "%s %d %s" % (units, entry.size, (content.hex() or "-") if wanted else ".")
+            raise Wrong(7, "it is damaged: %s has %d bytes, and %d are there" % (what, entry.size, len(content)))
+        word = "".join("%04x" % unit for unit in units) or "-"
+        return "%s %d %s" % (word, entry.size, (content.hex() or "-") if wanted else ".")
 
     def lines(self):
         return [self.line(entry) for entry in self.ole.root.kids if entry.entry_type == olefile.STGTY_STREAM]

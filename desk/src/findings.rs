@@ -52,6 +52,8 @@ pub struct Findings {
     pub expected: BTreeMap<Rule, Met>,
     pub differed: usize,
     shown: Vec<String>,
+    /// Under what else than the package's own code page is being compared.
+    pub under: String,
     /// Tables and streams that were not read, each with its reason.
     pub not_read: Vec<String>,
     pub notes: Vec<String>,
@@ -59,7 +61,7 @@ pub struct Findings {
 
 impl Findings {
     pub fn expect(&mut self, rule: Rule, place: impl FnOnce() -> String) {
-        let met = self.expected.entry(rule).or_insert_with(|| Met { count: 0, first: place() });
+        let met = self.expected.entry(rule).or_insert_with(|| Met { count: 0, first: place() + &self.under });
         met.count += 1;
     }
 
@@ -72,7 +74,7 @@ impl Findings {
         self.differed += 1;
         if self.shown.len() < SHOWN {
             let said: Vec<String> = voices.iter().map(|(who, what)| format!("{who} {what}")).collect();
-            self.shown.push(format!("DIFFERS: {}: {}", place(), said.join(" | ")));
+            self.shown.push(format!("DIFFERS: {}{}: {}", place(), self.under, said.join(" | ")));
         }
     }
 

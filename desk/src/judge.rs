@@ -43,6 +43,14 @@ pub fn list_given(answer: &str) -> Option<(usize, Vec<&str>)> {
     Some((rows.parse().ok()?, list))
 }
 
+/// Such an answer by its size alone.
+fn list_words(answer: &str) -> String {
+    match list_given(answer) {
+        Some((rows, list)) => format!("{rows} rows, {} cells", list.len()),
+        None => shown::answer(answer),
+    }
+}
+
 /// Two streams written, byte for byte.
 pub fn streams(findings: &mut Findings, what: &str, voices: [(&str, &[u8]); 2]) {
     let [(_, one), (_, other)] = voices;
@@ -67,13 +75,7 @@ pub fn cells(findings: &mut Findings, layout: &Layout, krate: &str, port: &str) 
                 findings.differ(|| layout.place(at), &[("crate", shown::word(one)), ("port", shown::word(other))]);
             }
         }
-        (one, other) => {
-            let said = |given: Option<(usize, Vec<&str>)>, answer: &str| match given {
-                Some((rows, cells)) => format!("{rows} rows, {} cells", cells.len()),
-                None => shown::answer(answer),
-            };
-            findings.differ(|| layout.name(), &[("crate", said(one, krate)), ("port", said(other, port))]);
-        }
+        _ => findings.differ(|| layout.name(), &[("crate", list_words(krate)), ("port", list_words(port))]),
     }
 }
 
@@ -94,17 +96,16 @@ impl Values<'_> {
 
     /// Both sides' values, cell by cell.
     pub fn judge(&self, findings: &mut Findings, krate: &str, port: &str) {
-        let lists = (list_given(krate), list_given(port));
-        let (Some((_, ours)), Some((_, theirs))) = lists else {
-            return whole(findings, || format!("{}, its values", self.layout.name()), krate, port);
-        };
-        if ours.len() != self.cells.len() || theirs.len() != self.cells.len() {
-            let said = [("crate", ours.len()), ("port", theirs.len()), ("read gave", self.cells.len())];
-            let said = said.map(|(who, count)| (who, format!("{count} cells")));
-            return findings.differ(|| format!("{}, its values", self.layout.name()), &said);
-        }
-        for (at, cell) in self.cells.iter().enumerate() {
-            self.judge_one(findings, at, &self.wanted(cell), ours[at], theirs[at]);
+        match (list_given(krate), list_given(port)) {
+            (Some((_, ours)), Some((_, theirs))) if ours.len() == self.cells.len() && theirs.len() == self.cells.len() => {
+                for (at, cell) in self.cells.iter().enumerate() {
+                    self.judge_one(findings, at, &self.wanted(cell), ours[at], theirs[at]);
+                }
+            }
+            _ => {
+                let said = [("crate", list_words(krate)), ("port", list_words(port)), ("read gave", format!("{} cells", self.cells.len()))];
+                findings.differ(|| format!("{}, its values", self.layout.name()), &said);
+            }
         }
     }
 
@@ -116,12 +117,9 @@ impl Values<'_> {
         match rule_of(self.pool.page, &own) {
             Some(rule) if port == wanted && krate.starts_with('t') => findings.expect(rule, || self.layout.place(at)),
             _ => {
-                let other = if krate == port { wanted } else { krate };
-                let said = [
-                    ("crate", shown::beside(krate, if krate == port { wanted } else { port })),
-                    ("port", shown::beside(port, other)),
-                    ("package", shown::beside(wanted, port)),
-                ];
+                let of = |one, other| shown::beside(one, if krate == port { wanted } else { other });
+                let third = if wanted.starts_with('t') { "package" } else { "its cell" };
+                let said = [("crate", of(krate, port)), ("port", of(port, krate)), (third, shown::beside(wanted, port))];
                 findings.differ(|| self.layout.place(at), &said);
             }
         }

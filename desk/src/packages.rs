@@ -127,13 +127,15 @@ fn write_report(report: &mut Report, file: &str, walk: &Walk) -> std::io::Result
     for seen in &walk.seen {
         let sum = |bytes: &Option<Vec<u8>>| bytes.as_ref().map_or(Ok(String::new()), |bytes| report::sha256(bytes));
         let columns = seen.layout.columns.len();
+        // A stream of the pool has entries, and neither columns nor cells.
+        let figure = |count: usize| if columns == 0 { String::new() } else { count.to_string() };
         let refusal = seen.refusal.as_ref();
         report.table(&[
             file.into(),
             seen.layout.name(),
             seen.rows.to_string(),
-            columns.to_string(),
-            (seen.rows * columns).to_string(),
+            figure(columns),
+            figure(seen.rows * columns),
             refusal.map_or(String::new(), |refusal| refusal.number().to_string()),
             refusal.map_or(String::new(), |refusal| place_words(refusal.place())),
             refusal.map_or(String::new(), |refusal| refusal.sentence().into()),
@@ -201,6 +203,7 @@ fn package(options: &mut Options, file: &OsStr, pages: &mut Pages, progress: &Pr
     let begun = Instant::now();
     let streams = container::streams(&options.reader, file)?;
     let name = name_of(file).to_string_lossy().into_owned();
+    progress.begin(format!("{name}: both sides are started"));
     let mut walk = Walk::new(name.clone(), sides(options)?, pages, streams, progress.clone());
     if let Some(report) = &mut options.report {
         walk.folder = Some(report.folder(name_of(file).as_bytes()).map_err(|error| format!("the report: {error}"))?);

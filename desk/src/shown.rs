@@ -1,5 +1,5 @@
 //! Words of the command language, put so that a person reads them.
-use crate::language::bytes_of;
+use crate::language::{bytes_of, units_of};
 use crate::refusal::{Place, Refusal};
 
 /// A text on one line: a backslash, tab or end of line is written behind a backslash, and so is a byte that is no printable
@@ -73,6 +73,27 @@ pub fn answer(answer: &str) -> String {
         Some(refusal) if refusal.number() == 0 => "refused, with no number".into(),
         Some(refusal) => format!("refused: {refusal}"),
         None => near(answer.as_bytes(), 0, text),
+    }
+}
+
+/// What `load` answers.
+pub fn pool(given: &str) -> String {
+    match given.split(' ').collect::<Vec<_>>()[..] {
+        ["ok", page, long, entries] => {
+            format!("code page {page}, {} references, {entries} entries", if long == "0" { "short" } else { "long" })
+        }
+        _ => answer(given),
+    }
+}
+
+/// What `dec` answers.
+pub fn name(given: &str) -> String {
+    match given.split(' ').collect::<Vec<_>>()[..] {
+        ["ok", table, units] => {
+            let units = units_of(units).unwrap_or_default();
+            format!("{} '{}'", if table == "0" { "plain" } else { "a table's" }, text(String::from_utf16_lossy(&units).as_bytes()))
+        }
+        _ => answer(given),
     }
 }
 

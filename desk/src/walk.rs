@@ -193,9 +193,10 @@ impl<'a> Walk<'a> {
             let own = format!("ok {} {}", flag(stream.is_table), units_word(&stream.name));
             let ill_formed = String::from_utf16(&stream.stored).is_err();
             for at in 3 * at..3 * at + 3 {
-                let place = || format!("the name of stream {}, command '{}'", String::from_utf16_lossy(&stream.name), lines[at]);
-                if lines[at].starts_with("dec") && port[at] != own {
-                    let said = [("port", port[at].clone()), ("package", own.clone())];
+                let command = lines[at].split(' ').next().unwrap_or("");
+                let place = || format!("the name of stream {}, by {command}", String::from_utf16_lossy(&stream.name));
+                if command == "dec" && port[at] != own {
+                    let said = [("crate", &krate[at]), ("port", &port[at]), ("package", &own)].map(|(who, name)| (who, shown::name(name)));
                     self.findings.differ(place, &said);
                 } else if ill_formed && krate[at] == "outside" && port[at].starts_with("ok") {
                     self.findings.expect(Rule::Name, place);
@@ -234,6 +235,7 @@ impl<'a> Walk<'a> {
         }
         let (pool, own) = (reading::with_page(pool, EXACT), Pool { page: EXACT, ..own });
         self.findings.notes.push(format!("compared with the code page set to {EXACT} on both sides"));
+        self.findings.under = format!(" (code page set to {EXACT})");
         self.load(&pool, data)?;
         self.written(&own)?;
         Ok(Some(own))
@@ -241,7 +243,7 @@ impl<'a> Walk<'a> {
 
     fn refused_pool(&mut self, number: u32) {
         let refusal = Refusal::new(number, crate::refusal::Place::Nowhere);
-        self.findings.notes.push(format!("refused: the pool: {refusal}"));
+        self.findings.notes.push(format!("refused by both: the pool: {refusal}"));
         self.refusal = Some(refusal);
     }
 
@@ -254,8 +256,8 @@ impl<'a> Walk<'a> {
             Ok(own) => (format!("ok {page} {} {}", flag(own.long), own.entries.len()), format!(" {} {}", flag(own.long), own.entries.len())),
             Err(number) => (format!("error {number}"), String::new()),
         };
-        let place = || "the pool, loaded (code page, long references, entries)".to_string();
-        let said = || [("crate", shown::answer(krate)), ("port", shown::answer(port)), ("package", shown::answer(&own))];
+        let place = || "the pool, loaded".to_string();
+        let said = || [("crate", shown::pool(krate)), ("port", shown::pool(port)), ("package", shown::pool(&own))];
         if port != own {
             self.findings.differ(place, &said());
             return Ok(krate != "error 0");
@@ -396,7 +398,7 @@ impl<'a> Walk<'a> {
         let answer = if port[0].starts_with("ok ") { port[0].clone() } else { krate[0].clone() };
         let mut seen = TableSeen { layout, rows: 0, refusal: None, result: String::new(), before, after: None, cells: answer.clone() };
         if let Some(refusal) = shown::refusal(&port[0]) {
-            self.refused_table(&mut seen, refusal);
+            self.refused_table(&mut seen, refusal, krate[0] == port[0]);
         }
         if let Some((rows, cells)) = judge::list_given(&answer) {
             let values = Values { layout: &seen.layout, pool: own, cells: &cells };
@@ -414,9 +416,10 @@ impl<'a> Walk<'a> {
         Ok(answer)
     }
 
-    fn refused_table(&mut self, seen: &mut TableSeen, refusal: Refusal) {
+    fn refused_table(&mut self, seen: &mut TableSeen, refusal: Refusal, alike: bool) {
         self.tally.refused += 1;
-        self.findings.notes.push(format!("refused: {}: {refusal}", seen.layout.name()));
+        let who = if alike { "by both" } else { "by the port alone" };
+        self.findings.notes.push(format!("refused {who}: {}: {refusal}", seen.layout.name()));
         seen.refusal = Some(refusal);
         seen.result = "refused".into();
     }
@@ -451,6 +454,7 @@ impl<'a> Walk<'a> {
     fn texts_again(&mut self, pool: &[u8], data: &[u8]) -> Result<(), Ended> {
         let pool = reading::with_page(pool, EXACT);
         let Ok(own) = Pool::read(&pool, data) else { return Ok(()) };
+        self.findings.under = format!(" (code page set to {EXACT})");
         self.load(&pool, data)?;
         self.written(&own)?;
         for at in 0..self.seen.len() {

@@ -103,7 +103,8 @@ impl Values<'_> {
                 }
             }
             _ => {
-                let said = [("crate", list_words(krate)), ("port", list_words(port)), ("read gave", format!("{} cells", self.cells.len()))];
+                let read = format!("{} cells", self.cells.len());
+                let said = [("crate", list_words(krate)), ("port", list_words(port)), ("read gave", read)];
                 findings.differ(|| format!("{}, its values", self.layout.name()), &said);
             }
         }

@@ -15,17 +15,20 @@ mod reading;
 mod refusal;
 mod report;
 mod shown;
+mod summary;
 mod walk;
+mod walk_pool;
+mod walk_tables;
 
 use pipes::{Both, Side, ENDED};
 use progress::Progress;
-use refusal::Place;
 use report::Report;
 use std::ffi::{OsStr, OsString};
 use std::io::Write;
 use std::os::unix::ffi::OsStrExt;
 use std::path::Path;
 use std::time::Instant;
+use summary::{counts_lines, figures, reported, result_of, row};
 use walk::{Pages, Tally, Walk};
 
 struct Options {
@@ -90,88 +93,6 @@ fn sides(options: &Options) -> Result<Both, String> {
     }
 }
 
-fn row(name: &str, cells: [String; 9], result: &str) -> String {
-    let [streams, tables, without, rows, cells, expected, differed, identical, seconds] = cells;
-    format!("{name:<24} {streams:>7} {tables:>6} {without:>9} {rows:>7} {cells:>8} {identical:>9} {expected:>8} {differed:>8} {seconds:>7}  {result}")
-}
-
-fn figures(tally: &Tally, expected: usize, differed: usize, begun: Instant) -> [String; 9] {
-    let Tally { streams, tables, without_stream, rows, cells, identical, rewritten, .. } = tally;
-    let counts = [streams, tables, without_stream, rows, cells, &expected, &differed].map(usize::to_string);
-    let [a, b, c, d, e, f, g] = counts;
-    [a, b, c, d, e, f, g, format!("{identical}/{rewritten}"), format!("{:.1}", begun.elapsed().as_secs_f64())]
-}
-
-fn result_of(walk: &Walk) -> &'static str {
-    let findings = &walk.findings;
-    match () {
-        () if findings.differed > 0 => "DIFFERS",
-        () if !findings.not_read.is_empty() => "not all read",
-        () if walk.refusal.is_some() => "refused alike",
-        () if !findings.expected.is_empty() => "agrees, but for what is expected",
-        () if walk.tally.refused > 0 => "agrees, with tables refused alike",
-        () => "agrees",
-    }
-}
-
-fn place_words(place: Place) -> String {
-    match place {
-        Place::Nowhere => String::new(),
-        Place::Column(column) => format!("column {column}"),
-        Place::Cell { row, column } => format!("row {row}, column {column}"),
-    }
-}
-
-/// The lines of a package in the report.
-fn write_report(report: &mut Report, file: &str, walk: &Walk) -> std::io::Result<()> {
-    for seen in &walk.seen {
-        let sum = |bytes: &Option<Vec<u8>>| bytes.as_ref().map_or(Ok(String::new()), |bytes| report::sha256(bytes));
-        let columns = seen.layout.columns.len();
-        // A stream of the pool has entries, and neither columns nor cells.
-        let figure = |count: usize| if columns == 0 { String::new() } else { count.to_string() };
-        let refusal = seen.refusal.as_ref();
-        report.table(&[
-            file.into(),
-            seen.layout.name(),
-            seen.rows.to_string(),
-            figure(columns),
-            figure(seen.rows * columns),
-            refusal.map_or(String::new(), |refusal| refusal.number().to_string()),
-            refusal.map_or(String::new(), |refusal| place_words(refusal.place())),
-            refusal.map_or(String::new(), |refusal| refusal.sentence().into()),
-            seen.result.clone(),
-            sum(&seen.before)?,
-            sum(&seen.after)?,
-        ])?;
-    }
-    let (page, long, entries) = walk.head.map_or(Default::default(), |(page, long, entries)| {
-        (page.to_string(), if long { "yes" } else { "no" }.to_string(), entries.to_string())
-    });
-    let tally = &walk.tally;
-    report.package(&[
-        file.into(),
-        walk.folder.as_ref().map_or(String::new(), |folder| folder.name.clone()),
-        result_of(walk).into(),
-        walk.refusal.map_or(String::new(), |refusal| refusal.number().to_string()),
-        walk.refusal.map_or(walk.findings.not_read.join("; "), |refusal| refusal.sentence().into()),
-        page,
-        long,
-        entries,
-        tally.streams.to_string(),
-        tally.table_streams.to_string(),
-        tally.tables.to_string(),
-        tally.without_stream.to_string(),
-        tally.refused.to_string(),
-        walk.findings.not_read.len().to_string(),
-        tally.rows.to_string(),
-        tally.cells.to_string(),
-        tally.rewritten.to_string(),
-        tally.identical.to_string(),
-        walk.findings.expected_count().to_string(),
-        walk.findings.differed.to_string(),
-    ])
-}
-
 /// A package that was not opened: a line in words, and one in the report.
 fn unread(options: &mut Options, file: &OsStr, why: &str) {
     let name = name_of(file).to_string_lossy();
@@ -187,17 +108,6 @@ fn unread(options: &mut Options, file: &OsStr, why: &str) {
     }
 }
 
-fn counts_lines(walk: &Walk) -> Vec<String> {
-    let mut lines = vec![format!("counts: {} entries whose count is not the number of cells that name them", walk.miscounted.len())];
-    for wrong in &walk.miscounted {
-        lines.push(format!("counts: reference {}, \"{}\": count {}, cells {}", wrong.reference, wrong.text, wrong.count, wrong.cells));
-    }
-    if !walk.findings.not_read.is_empty() || walk.tally.refused > 0 {
-        lines.push("counts: of the tables that were read; not all were".into());
-    }
-    lines
-}
-
 /// One package: walked, its line and what is under it said, its part of the report written.
 fn package(options: &mut Options, file: &OsStr, pages: &mut Pages, progress: &Progress) -> Result<Totals, String> {
     let begun = Instant::now();
@@ -205,6 +115,9 @@ fn package(options: &mut Options, file: &OsStr, pages: &mut Pages, progress: &Pr
     let name = name_of(file).to_string_lossy().into_owned();
     progress.begin(format!("{name}: both sides are started"));
     let mut walk = Walk::new(name.clone(), sides(options)?, pages, streams, progress.clone());
+    if walk.bytes_of("_StringPool").is_none() {
+        return Err("it has no stream _StringPool: it is a compound file, and no package".into());
+    }
     if let Some(report) = &mut options.report {
         walk.folder = Some(report.folder(name_of(file).as_bytes()).map_err(|error| format!("the report: {error}"))?);
     }
@@ -217,7 +130,7 @@ fn package(options: &mut Options, file: &OsStr, pages: &mut Pages, progress: &Pr
         say(&format!("    {line}"));
     }
     if let Some(report) = &mut options.report {
-        write_report(report, &file.to_string_lossy(), &walk).map_err(|error| format!("the report: {error}"))?;
+        reported(report, &file.to_string_lossy(), &walk).map_err(|error| format!("the report: {error}"))?;
     }
     Ok(Totals { packages: 1, unread: 0, tally: walk.tally.clone(), expected, differed, not_read: walk.findings.not_read.len() })
 }
@@ -244,8 +157,8 @@ impl Totals {
         let Totals { packages, unread, tally, expected, differed, not_read } = self;
         say(&row("in all", figures(tally, *expected, *differed, begun), ""));
         say(&format!(
-            "packages: {packages} read, {unread} not; streams: {} are there, {} of them of tables; tables: {} listed, {} of them without a \
-             stream, {} refused, {not_read} not read; {} rows, {} cells; {} of {} streams written back identically; \
+            "packages: {packages} read, {unread} not; streams: {} are there, {} of them of tables; tables: {} listed, {} of them \
+             without a stream, {} refused, {not_read} not read; {} rows, {} cells; {} of {} streams written back identically; \
              departures: {expected} expected, {differed} not; {:.1} seconds",
             tally.streams, tally.table_streams, tally.tables, tally.without_stream, tally.refused, tally.rows, tally.cells,
             tally.identical, tally.rewritten, begun.elapsed().as_secs_f64()

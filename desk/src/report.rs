@@ -111,17 +111,21 @@ impl Report {
 }
 
 impl Folder {
-    /// A table as one side gave its values: a line of names with their bits, and a line for each row.
-    pub fn table(&mut self, side: &str, layout: &Layout, answer: &str) -> io::Result<()> {
-        let name = match side {
-            "crate" => own_name(&mut self.files, &layout.table),
-            _ => self.files.get(&safe(&layout.table)).filter(|count| **count > 1).map_or_else(
-                || safe(&layout.table), |count| format!("{}~{count}", safe(&layout.table))),
-        };
-        let mut file = BufWriter::new(File::create(self.path.join(side).join(format!("{name}.tsv")))?);
+    /// A table as either side gave its values.
+    pub fn table(&mut self, layout: &Layout, krate: &str, port: &str) -> io::Result<()> {
+        let name = own_name(&mut self.files, &layout.table) + ".tsv";
+        self.values("crate", &name, layout, krate)?;
+        self.values("port", &name, layout, port)
+    }
+
+    /// A line of names with their bits, and a line for each row.
+    fn values(&self, side: &str, name: &str, layout: &Layout, answer: &str) -> io::Result<()> {
+        let mut file = BufWriter::new(File::create(self.path.join(side).join(name))?);
         let titles: Vec<String> = layout.columns.iter().map(|column| format!("{}:{}", column.name, column.bits)).collect();
         writeln!(file, "{}", titles.join("\t"))?;
-        let Some((_, values)) = judge::list_given(answer) else { return writeln!(file, "# {}", shown::answer(answer)) };
+        let Some((_, values)) = judge::list_given(answer) else {
+            return writeln!(file, "# {}", shown::answer(answer));
+        };
         for row in values.chunks(layout.columns.len().max(1)) {
             let fields: Vec<String> = row.iter().map(|word| shown::field(word)).collect();
             writeln!(file, "{}", fields.join("\t"))?;

@@ -2,3 +2,4 @@
 mod Cells
 mod Mapped
 mod Unknown
+mod UnknownTypes

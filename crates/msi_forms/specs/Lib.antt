@@ -1,6 +1,7 @@
 pub mod Answers
 pub mod Columns
 pub mod Pools
+pub mod Promises
 pub mod Tables
 pub mod Unknown
 pub mod Values

@@ -1,5 +1,5 @@
--- "16: kind of cell does not suit the column, or is unknown". C hands kinds and types over as numbers, and 0 to 3 are known: Null, Int,
--- Str and Binary; Int16, Int32, Str and Binary.
+-- "16: kind of cell does not suit the column, or is unknown". C hands kinds and types over as numbers, and 0 to 3 are known:
+-- Null, Int, Str and Binary; Int16, Int32, Str and Binary.
 use Prim.Native.Nat.{ℕ}
 use mathlib.Core.Bool.{Bool}
 use Rattle.common.specs.Choice.{if_then_else_, _<?_}
@@ -12,7 +12,8 @@ unknown number = 3 <? number
 abbrev pub onKind : {A : Type 0} → Place → ℕ → Answer A → Answer A
 onKind at kind a = if unknown kind then onGiven a (λ x. refused 16 at) else a
 
--- the number of a refusal on columns, of which the one at c was handed over with the type `types c`: a bad column of an unknown type is 16
+-- the number of a refusal on columns, where the one at c was handed over with the type `types c`: a bad column of an unknown type
+-- is 16
 abbrev pub numberAt : (ℕ → ℕ) → ℕ → Place → ℕ
 numberAt types n nowhere = n
 numberAt types n (column c) = if unknown (types c) then 16 else n

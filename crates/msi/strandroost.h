@@ -1,21 +1,21 @@
 /* The port's calls for C and C++: libmsi.a, made by `rt staticlib msi`, for x86-64 Linux. C99 and later, C++11 and later.
  *
- * Every call returns for every input, reads and writes only what it is lent, keeps nothing between calls, and after a refusal has
- * left all lent memory as it was. What each call answers is proved: its contract stands in crates/msi/src, by the definitions in
- * crates/msi_forms/specs. Numbers of refusals are those of document 01; below, each call has its own in the order in which they are
- * judged.
+ * Every call returns for every input, reads and writes only what it is lent, keeps nothing between calls, and after a refusal
+ * has left all lent memory as it was. What each call answers is proved: its contract stands in crates/msi/src, by the
+ * definitions in crates/msi_forms/specs. Numbers of refusals are those of document 01; below, each call has its own in the
+ * order in which they are judged.
  *
  * What the caller sees to, since no call can:
- * - Memory is lent as a pointer and a count of elements (units, entries, bytes or cells; never bytes where elements are wider).
- *   Where the count is above 0 the pointer must be aligned and valid for that many elements; where it is 0 it may be anything
- *   aligned, NULL included.
- * - What one argument lends to be written must not overlap what another argument lends. So no call works in place: a name encoded
- *   over itself comes out wrong.
+ * - Memory is lent as a pointer and a count of elements (units, entries, bytes or cells; never bytes where elements are
+ *   wider). Where the count is above 0 the pointer must be aligned and valid for that many elements; where it is 0 it may be
+ *   anything aligned, NULL included.
+ * - What one argument lends to be written must not overlap what another argument lends. So no call works in place: a name
+ *   encoded over itself may come out wrong.
  * - A bool is 0 or 1. Any other byte there is undefined in C, and here.
  * - Calls may run at the same time on several threads, as long as what is lent to one to be written is not lent to another.
  *
- * Kinds of cells (0 Null, 1 Int, 2 Str, 3 Binary) and types of columns (0 Int16, 1 Int32, 2 Str, 3 Binary) are numbers, and any number
- * may be handed over: one that is unknown is refused with 16. */
+ * Kinds of cells (0 Null, 1 Int, 2 Str, 3 Binary) and types of columns (0 Int16, 1 Int32, 2 Str, 3 Binary) are numbers, and
+ * any number may be handed over: one that is unknown is refused with 16. */
 #ifndef STRANDROOST_H
 #define STRANDROOST_H
 
@@ -64,9 +64,9 @@ struct strandroost_reference {
     int32_t value;
 };
 
-/* A pool's state. Its rooms are lent beside it to each call: the lengths and the counts of its entries, and their texts one after
- * another. The entry room is the shorter of lengths and counts. A state that the rooms do not bear out is refused with 24, so it may
- * be filled by hand; after a refusal the caller keeps the state that it had. */
+/* A pool's state. Its rooms are lent beside it to each call: the lengths and the counts of its entries, and their texts one
+ * after another. The entry room is the shorter of lengths and counts. A state that the rooms do not bear out is refused with
+ * 24, so it may be filled by hand; after a refusal the caller keeps the state that it had. */
 struct strandroost_pool {
     size_t num_strings;
     uint32_t codepage;
@@ -116,14 +116,15 @@ struct strandroost_column_answer {
     struct strandroost_column column;
 };
 
-/* A layout, handed over whole: the first `count` columns are in use, the others are never looked at. Every call judges it, so it may
- * be filled by hand. */
+/* A layout, handed over whole: the first `count` columns are in use, the others are never looked at. Every call judges it, so
+ * it may be filled by hand. */
 struct strandroost_table {
     struct strandroost_column columns[64];
     size_t count;
     bool long_string_refs;
 };
 
+/* Where it was refused: no columns, every place 0, and long_string_refs as it was handed over. */
 struct strandroost_table_answer {
     struct strandroost_refused refused;
     struct strandroost_table table;
@@ -152,8 +153,8 @@ struct strandroost_name strandroost_decode(const uint16_t *stored, size_t units,
 /* Whether a name may be stored. 22: over 65,535 units. */
 struct strandroost_flag strandroost_is_valid(const uint16_t *name, size_t units, bool is_table);
 
-/* ---- The string pool. Every call that is lent its rooms judges first 22, a text room over 268,435,455 bytes, then 24, an unsound
- * state. */
+/* ---- The string pool. Every call that is lent its rooms judges first 22, a text room over 268,435,455 bytes, then 24, an
+ * unsound state. */
 
 /* The number, where it is a reference. 8: below 1 or above 16,777,215. */
 struct strandroost_reference strandroost_string_ref(int32_t number);
@@ -163,8 +164,9 @@ struct strandroost_pool_answer strandroost_new(uint32_t codepage);
 
 /* The pool of two streams, its entries and texts written to the rooms. An entry takes at least 4 bytes of the pool stream, so
  * (pool_bytes - 4) / 4 entries and data_bytes of text suffice.
- * 22: a stream or the text room over 268,435,455 bytes. 1, 2: the pool stream is under 4 bytes, or ends inside an entry. 3: over
- * 16,777,215 entries. 4: over the entry room. 5: the data stream is shorter than the lengths' sum. 6: the text room is too small. */
+ * 22: a stream or the text room over 268,435,455 bytes. 1, 2: the pool stream is under 4 bytes, or ends inside an entry. 3:
+ * over 16,777,215 entries. 4: over the entry room. 5: the data stream is shorter than the lengths' sum. 6: the text room is
+ * too small. */
 struct strandroost_pool_answer strandroost_load(const uint8_t *pool, size_t pool_bytes, const uint8_t *data, size_t data_bytes,
                                                 uint32_t *lengths, size_t lengths_len, uint16_t *counts, size_t counts_len,
                                                 uint8_t *text, size_t text_len);
@@ -184,15 +186,15 @@ struct strandroost_refused strandroost_get_refusal(struct strandroost_pool pool,
                                                    const uint16_t *counts, size_t counts_len, const uint8_t *text,
                                                    size_t text_len, int32_t number);
 
-/* The text of a reference, copied to `out`, since no exported call hands out a pointer; none past the last entry. How many bytes that
- * are: lengths[number - 1]. 22, 24, 8, 7. */
+/* The text of a reference, copied to `out`, since no exported call hands out a pointer; none past the last entry. How many
+ * bytes that are: lengths[number - 1]. 22, 24, 8, 7. */
 struct strandroost_count strandroost_get(struct strandroost_pool pool, const uint32_t *lengths, size_t lengths_len,
                                          const uint16_t *counts, size_t counts_len, const uint8_t *text, size_t text_len,
                                          int32_t number, uint8_t *out, size_t places);
 
 /* Takes a text: its reference, and the pool afterwards. One more entry and taken_len more bytes of text suffice.
- * 22: the text taken too over 268,435,455 bytes. 24. A new entry is wanted and 11: references are short, with 65,535 or more entries;
- * 12: there are 16,777,215; 4: the entry room is full. 6: the text room is too small. */
+ * 22: the text taken, too, over 268,435,455 bytes. 24. Where a new entry is wanted, 11: references are short, with 65,535 or
+ * more entries; 12: there are 16,777,215; 4: the entry room is full. 6: the text room is too small. */
 struct strandroost_take_answer strandroost_incref(struct strandroost_pool pool, uint32_t *lengths, size_t lengths_len,
                                                   uint16_t *counts, size_t counts_len, uint8_t *text, size_t text_len,
                                                   const uint8_t *taken, size_t taken_len);
@@ -213,11 +215,12 @@ struct strandroost_count strandroost_write_data(struct strandroost_pool pool, co
                                                 const uint16_t *counts, size_t counts_len, const uint8_t *text, size_t text_len,
                                                 uint8_t *out, size_t places);
 
-/* ---- Values and the pool. A value is handed over by kind and number, which counts for an Int and for a reference. An unknown kind is
- * 16, with no place. */
+/* ---- Values and the pool. A value is handed over by kind and number, which counts for an Int and for a reference. An unknown
+ * kind is 16, with no place. */
 
-/* A value made: a text (kind 2), which is `taken`, is taken into the pool, and its number is then the reference; any other leaves the
- * pool as it is. 22: `taken`, whatever the kind, or the text room over 268,435,455 bytes. 24, 16. For a text 11, 12, 4, 6, as a take. */
+/* A value made: a text (kind 2), which is `taken`, is taken into the pool, and its number is then the reference; any other
+ * leaves the pool as it is.
+ * 22: `taken`, whatever the kind, or the text room over 268,435,455 bytes. 24, 16. For a text 11, 12, 4, 6, as a take. */
 struct strandroost_create_answer strandroost_create(uint8_t kind, int32_t number, const uint8_t *taken, size_t taken_len,
                                                     struct strandroost_pool pool, uint32_t *lengths, size_t lengths_len,
                                                     uint16_t *counts, size_t counts_len, uint8_t *text, size_t text_len);
@@ -239,8 +242,8 @@ struct strandroost_count strandroost_to_text(uint8_t kind, int32_t number, struc
                                              size_t lengths_len, const uint16_t *counts, size_t counts_len, const uint8_t *text,
                                              size_t text_len, uint8_t *out, size_t places);
 
-/* ---- Columns. One being made has marks and a range, set one after another; the type in it is not looked at. A column by itself is
- * column 0 in a refusal. */
+/* ---- Columns. One being made has marks and a range, set one after another; the type in it is not looked at. A column by
+ * itself is column 0 in a refusal. */
 
 /* One being made, without marks or range. Never refused, as the next eight. */
 struct strandroost_column strandroost_column_build(void);
@@ -281,8 +284,8 @@ struct strandroost_reference strandroost_column_bitfield(struct strandroost_colu
 struct strandroost_flag strandroost_is_valid_value(struct strandroost_column column, uint8_t kind, int32_t number,
                                                    const uint8_t *text, size_t text_len);
 
-/* ---- Tables. A bad column is refused at its place: 19, a Str maximum above 255, or 16, an unknown type, whichever the first bad one of
- * those in use has. */
+/* ---- Tables. A bad column is refused at its place: 19, a Str maximum above 255, or 16, an unknown type, whichever the first
+ * bad one of those in use has. */
 
 /* The layout handed over, as it came; where it is refused, one without columns. 20: over 64 columns. 19 or 16. */
 struct strandroost_table_answer strandroost_table_new(struct strandroost_table table);
@@ -302,14 +305,15 @@ struct strandroost_count strandroost_read_rows(struct strandroost_table table, c
                                                uint8_t *kinds, size_t kinds_len, int32_t *numbers, size_t numbers_len);
 
 /* The table stream of cells handed over row by row: how many bytes were written, rows times the row size; 4 * kinds_len places
- * suffice. 20, 19 or 16, 14. 23: kinds or numbers not rows * count. Then the cells, column by column, each at its place: 16, a kind that
- * is unknown or does not suit the column; 17, an Int outside its width; 8, no reference; 18, one above 65,535 in a short table. 7. */
+ * suffice. 20, 19 or 16, 14. 23: kinds or numbers not rows * count. Then the cells, column by column, each at its place: 16, a
+ * kind that is unknown or does not suit the column; 17, an Int outside its width; 8, no reference; 18, one above 65,535 in a
+ * short table. 7. */
 struct strandroost_count strandroost_write_rows(struct strandroost_table table, size_t rows, const uint8_t *kinds,
                                                 size_t kinds_len, const int32_t *numbers, size_t numbers_len, uint8_t *out,
                                                 size_t places);
 
-/* A step of the row reader from the place `at`, 0 at first: a cell moves it by one; past the last there is none, however often asked,
- * and that and a refusal leave it. 22, 20, 19 or 16, 14. */
+/* A step of the row reader from the place `at`, 0 at first: a cell moves it by one; past the last there is none, however often
+ * asked, and that and a refusal leave it. 22, 20, 19 or 16, 14. */
 struct strandroost_step_answer strandroost_rows_next(struct strandroost_table table, const uint8_t *stream, size_t stream_len,
                                                      size_t at);
 

@@ -76,12 +76,13 @@ fn ordered(columns: Numbered) -> Result<Vec<Column>, String> {
 }
 
 /// What _Columns says of each table: its layout, or why it has none. Tables are told apart by their names, not by the references.
-pub fn layouts(cells: &[&str], pool: &Pool) -> (Vec<Layout>, Vec<(Vec<u8>, String)>) {
+/// A row may name no table.
+pub fn layouts(cells: &[&str], pool: &Pool) -> (Vec<Layout>, Vec<(Option<Vec<u8>>, String)>) {
     let mut tables: BTreeMap<Vec<u8>, Result<Numbered, String>> = BTreeMap::new();
     let mut bad = Vec::new();
     for (row, cells) in cells.chunks_exact(4).enumerate() {
         let Some(reference) = number(cells[0], 's') else {
-            bad.push((Vec::new(), format!("row {row} of _Columns names no table")));
+            bad.push((None, format!("row {row} of _Columns names no table")));
             continue;
         };
         let table = tables.entry(pool.text(reference).to_vec()).or_insert_with(|| Ok(BTreeMap::new()));
@@ -99,7 +100,7 @@ pub fn layouts(cells: &[&str], pool: &Pool) -> (Vec<Layout>, Vec<(Vec<u8>, Strin
     for (table, columns) in tables {
         match columns.and_then(ordered) {
             Ok(columns) => layouts.push(Layout { table, columns }),
-            Err(why) => bad.push((table, why)),
+            Err(why) => bad.push((Some(table), why)),
         }
     }
     (layouts, bad)

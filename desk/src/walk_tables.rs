@@ -19,10 +19,12 @@ impl Walk<'_> {
         let (layouts, bad) = layouts::layouts(&columns, own);
         let references = columns.chunks_exact(4).map(|row| row[0]).chain(tables.iter().copied());
         self.shown(references.filter_map(|cell| layouts::number(cell, 's')).collect(), own)?;
-        let mut listed: BTreeSet<Vec<u8>> = bad.iter().map(|(table, _)| table.clone()).collect();
+        let mut listed: BTreeSet<Vec<u8>> = bad.iter().filter_map(|(table, _)| table.clone()).collect();
         for (table, why) in bad {
-            let name = if table.is_empty() { String::new() } else { format!("{}: ", shown::text(&table)) };
-            self.not_read(&table, format!("{name}{why}"));
+            match table {
+                Some(table) => self.not_read(&table, &why),
+                None => self.findings.not_read.push(why),
+            }
         }
         for layout in layouts {
             listed.insert(layout.table.clone());
@@ -52,14 +54,14 @@ impl Walk<'_> {
         Ok(())
     }
 
-    fn not_read(&mut self, table: &[u8], why: String) {
+    /// A table that is listed, and why it cannot be read.
+    fn not_read(&mut self, table: &[u8], why: &str) {
         let layout = Layout { table: table.to_vec(), columns: Vec::new() };
         let before = self.stream(&units(table)).map(|stream| stream.bytes.clone());
-        if !table.is_empty() {
-            self.tally.tables += 1;
-            self.tally.without_stream += usize::from(before.is_none());
-        }
-        self.findings.not_read.push(why.clone());
+        self.tally.tables += 1;
+        self.tally.without_stream += usize::from(before.is_none());
+        let name = if table.is_empty() { "a table with an empty name".into() } else { layout.name() };
+        self.findings.not_read.push(format!("{name}: {why}"));
         let result = format!("not read: {why}");
         self.seen.push(TableSeen { layout, rows: 0, refusal: None, result, before, after: None, cells: String::new() });
     }
@@ -69,7 +71,7 @@ impl Walk<'_> {
         for reference in tables.iter().filter_map(|cell| layouts::number(cell, 's')) {
             let table = own.text(reference).to_vec();
             if listed.insert(table.clone()) {
-                self.not_read(&table, format!("{}: _Tables lists it, and _Columns has no column of it", shown::text(&table)));
+                self.not_read(&table, "_Tables lists it, and _Columns has no column of it");
             }
         }
         listed.extend(["_StringPool", "_StringData", "_Columns", "_Tables"].map(|name| name.as_bytes().to_vec()));

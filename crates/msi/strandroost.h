@@ -153,8 +153,8 @@ struct strandroost_name strandroost_decode(const uint16_t *stored, size_t units,
 /* Whether a name may be stored. 22: over 65,535 units. */
 struct strandroost_flag strandroost_is_valid(const uint16_t *name, size_t units, bool is_table);
 
-/* ---- The string pool. Every call that is lent its rooms judges first 22, a text room over 268,435,455 bytes, then 24, an
- * unsound state. */
+/* ---- The string pool. Every call that is handed a state with its rooms judges first 22, a text room over 268,435,455 bytes, then
+ * 24, an unsound state. */
 
 /* The number, where it is a reference. 8: below 1 or above 16,777,215. */
 struct strandroost_reference strandroost_string_ref(int32_t number);
@@ -186,8 +186,8 @@ struct strandroost_refused strandroost_get_refusal(struct strandroost_pool pool,
                                                    const uint16_t *counts, size_t counts_len, const uint8_t *text,
                                                    size_t text_len, int32_t number);
 
-/* The text of a reference, copied to `out`, since no exported call hands out a pointer; none past the last entry: how
- * many bytes, lengths[number - 1]. 22, 24, 8, 7. */
+/* The text of a reference, copied to `out`, since no exported call hands out a pointer: how many bytes, which is
+ * lengths[number - 1] where number is at most num_strings, and 0 past the last entry. 22, 24, 8, 7. */
 struct strandroost_count strandroost_get(struct strandroost_pool pool, const uint32_t *lengths, size_t lengths_len,
                                          const uint16_t *counts, size_t counts_len, const uint8_t *text, size_t text_len,
                                          int32_t number, uint8_t *out, size_t places);
@@ -236,7 +236,7 @@ struct strandroost_cell_answer strandroost_to_value(uint8_t kind, int32_t number
                                                     const uint32_t *lengths, size_t lengths_len, const uint16_t *counts,
                                                     size_t counts_len, const uint8_t *text, size_t text_len);
 
-/* The text of a cell that holds a reference, copied to `out`, none of any other: how many bytes, lengths[number - 1].
+/* The text of a cell that holds a reference, copied to `out`, none of any other: how many bytes, as strandroost_get.
  * 22, 24, 16. For a reference 8, 7. */
 struct strandroost_count strandroost_to_text(uint8_t kind, int32_t number, struct strandroost_pool pool, const uint32_t *lengths,
                                              size_t lengths_len, const uint16_t *counts, size_t counts_len, const uint8_t *text,

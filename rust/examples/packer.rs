@@ -4,7 +4,7 @@
 //!
 //! takes the streams _StringPool, _StringData and Property as plain files, and writes each beside itself, with .new after its name.
 //! Without arguments it does so with streams made in memory, and writes nothing.
-use std::{env, error::Error, fs};
+use std::{env, error::Error, ffi::OsString, fs};
 use strandroost::{Column, StringPool, Table, ValueRef};
 
 /// The Property table: its key, and a text of any length that is translated.
@@ -42,23 +42,30 @@ fn stamped(streams: [Vec<u8>; 3], settings: &[(&str, &str)]) -> strandroost::Res
     Ok([pool.write_pool()?, pool.write_data()?, stream])
 }
 
+/// A setting on the command line.
+fn setting(word: &OsString) -> Option<(&str, &str)> {
+    word.to_str()?.split_once('=').filter(|(name, _)| !name.is_empty())
+}
+
 fn main() -> Result<(), Box<dyn Error>> {
     const USAGE: &str = "packer POOL DATA PROPERTY NAME=VALUE..";
-    let words: Vec<String> = env::args().skip(1).collect();
+    let words: Vec<OsString> = env::args_os().skip(1).collect();
     let (files, settings) = words.split_at(words.len().min(3));
-    let asked: Option<Vec<(&str, &str)>> = settings.iter().map(|word| word.split_once('=')).collect();
+    let asked: Option<Vec<(&str, &str)>> = settings.iter().map(setting).collect();
     let new = match (files, asked) {
         ([], _) => stamped(made()?, &[("ProductVersion", "2.0.0"), ("BRANCH", "Oslo")])?,
         ([pool, data, property], Some(asked)) => stamped([fs::read(pool)?, fs::read(data)?, fs::read(property)?], &asked)?,
         _ => return Err(USAGE.into()),
     };
-    for (file, stream) in files.iter().zip(new) {
-        fs::write(format!("{file}.new"), stream)?;
-    }
     // File number 40,000 in a SMALLINT is refused, before a byte is written.
     let sequence = Column::build().int16();
     if let Err(refusal) = Table::new(vec![sequence], false)?.write_rows(&[vec![ValueRef::Int(40_000)]]) {
         println!("40,000 in {}: {refusal}", sequence.coltype());
+    }
+    for (file, stream) in files.iter().zip(new) {
+        let mut beside = file.clone();
+        beside.push(".new");
+        fs::write(beside, stream)?;
     }
     Ok(())
 }

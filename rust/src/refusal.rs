@@ -63,7 +63,7 @@ impl Refusal {
             4 => "the pool has more entries than there is room for",
             5 => "the data stream is shorter than the texts of the pool",
             6 => "the texts need more room than there is",
-            7 => "the output is too small for the whole result",
+            7 => "the output is too small for the whole result, or there is no memory for it",
             8 => "a reference number is below 1 or above 16,777,215",
             9 => "the reference dropped lies past the last entry",
             10 => "the entry dropped has no reference left",
@@ -88,12 +88,12 @@ impl Refusal {
 
 impl fmt::Display for Refusal {
     fn fmt(&self, f: &mut fmt::Formatter<'_>) -> fmt::Result {
-        write!(f, "{} (refusal {}", self.sentence(), self.number)?;
-        match self.place {
-            Place::Nowhere => write!(f, ")"),
-            Place::Column(column) => write!(f, ", column {column})"),
-            Place::Cell { row, column } => write!(f, ", row {row}, column {column})"),
-        }
+        let place = match self.place {
+            Place::Nowhere => String::new(),
+            Place::Column(column) => format!(", column {column}"),
+            Place::Cell { row, column } => format!(", row {row}, column {column}"),
+        };
+        f.pad(&format!("{} (refusal {}{place})", self.sentence(), self.number))
     }
 }
 

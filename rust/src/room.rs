@@ -18,6 +18,15 @@ pub(crate) fn cut<T>(room: &mut Vec<T>, size: usize) {
     room.shrink_to(size);
 }
 
+/// Empty, with memory for so many; 7 where it cannot be had.
+pub(crate) fn spare<T>(size: usize) -> Result<Vec<T>> {
+    let mut room = Vec::new();
+    match room.try_reserve_exact(size) {
+        Ok(()) => Ok(room),
+        Err(_) => Err(Refusal::new(7, Place::Nowhere)),
+    }
+}
+
 /// An output of so many places; 7 where memory for it cannot be had.
 pub(crate) fn output<T: Copy + Default>(size: usize) -> Result<Vec<T>> {
     let mut out = Vec::new();

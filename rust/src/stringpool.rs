@@ -2,7 +2,7 @@
 
 use crate::calls::{self, Rooms, RoomsMut, State};
 use crate::refusal::{Place, Refusal, Result};
-use crate::room::{cut, output, widen};
+use crate::room::{cut, output, spare, widen};
 use std::io::{self, Read, Write};
 use std::iter::{FusedIterator, Zip};
 use std::slice::Iter;
@@ -197,11 +197,14 @@ impl StringPool {
     pub fn get(&self, reference: StringRef) -> &[u8] {
         match self.bounds().get(reference.place()..reference.place() + 2) {
             Some([start, end]) => self.text.get(*start as usize..*end as usize).unwrap_or_default(),
+            // Without memory for the bounds: by a pass.
+            _ if self.bounds().is_empty() => self.texts().nth(reference.place()).map_or(&[], |entry| entry.text),
             _ => &[],
         }
     }
 
-    /// Where each text begins, and last where the last one ends. The pool is sound, so no sum is above the largest text room.
+    /// Where each text begins, and last where the last one ends; none where the system has no memory for them. The pool is sound,
+    /// so no sum is above the largest text room.
     fn bounds(&self) -> &[u32] {
         self.bounds.get_or_init(|| {
             let mut end: u32 = 0;
@@ -209,7 +212,11 @@ impl StringPool {
                 end = end.wrapping_add(*length);
                 end
             });
-            std::iter::once(0).chain(ends).collect()
+            let mut bounds = spare(self.state.num_strings + 1).unwrap_or_default();
+            if bounds.capacity() > 0 {
+                bounds.extend(std::iter::once(0).chain(ends));
+            }
+            bounds
         })
     }
 

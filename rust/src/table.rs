@@ -3,7 +3,7 @@
 use crate::calls::{self, KindAndNumber, Layout};
 use crate::column::Column;
 use crate::refusal::{Place, Refusal, Result};
-use crate::room::output;
+use crate::room::{output, spare};
 use crate::stringpool::StringPool;
 use crate::value::{Value, ValueRef};
 use std::iter::FusedIterator;
@@ -27,7 +27,8 @@ impl Table {
     /// assert_eq!(refusal.to_string(), "a text column has a maximum above 255 (refusal 19, column 1)");
     /// ```
     pub fn new(columns: Vec<Column>, long_string_refs: bool) -> Result<Table> {
-        let parts: Vec<_> = columns.iter().map(Column::parts).collect();
+        // Of too many it is enough to hand over one too many.
+        let parts: Vec<_> = columns.iter().take(65).map(Column::parts).collect();
         Ok(Table { layout: Layout::new(&parts, long_string_refs)?, columns })
     }
 
@@ -84,7 +85,13 @@ impl Table {
     /// The rows of a stream as they are stored. Refused with 22, 14.
     pub fn read_rows(&self, stream: &[u8]) -> Result<Vec<Vec<ValueRef>>> {
         let cells = self.cells(stream)?;
-        Ok((0..cells.rows).map(|row| cells.row(row).collect()).collect())
+        let mut rows = spare(cells.rows)?;
+        for row in 0..cells.rows {
+            let mut values = spare(cells.columns)?;
+            values.extend(cells.row(row));
+            rows.push(values);
+        }
+        Ok(rows)
     }
 
     /// The rows of a stream with their values, row by row. All cells are read here, so that the walk itself is never refused.
@@ -127,8 +134,12 @@ impl Table {
     /// ```
     pub fn write_rows(&self, rows: &[Vec<ValueRef>]) -> Result<Vec<u8>> {
         self.judge_rows(rows)?;
-        let (kinds, numbers): (Vec<u8>, Vec<i32>) =
-            rows.iter().flatten().map(|cell| cell.handed()).map(|cell| (cell.kind, cell.number)).unzip();
+        let cells = rows.len() * self.columns.len();
+        let (mut kinds, mut numbers) = (spare(cells)?, spare(cells)?);
+        for cell in rows.iter().flatten().map(|cell| cell.handed()) {
+            kinds.push(cell.kind);
+            numbers.push(cell.number);
+        }
         let width: usize = self.columns.iter().map(|column| column.coltype().width(self.long_string_refs())).sum();
         let mut out = output(rows.len() * width)?;
         let bytes = calls::write_rows(&self.layout, rows.len(), &kinds, &numbers, &mut out)?;

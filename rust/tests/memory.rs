@@ -177,6 +177,27 @@ fn a_system_without_memory_is_a_refusal() {
 }
 
 #[test]
+fn a_system_without_memory_is_no_abort() {
+    let (stream, data) = (stream(100_000), vec![b'A'; 100_000]);
+    let pool = StringPool::load(&stream, &data).unwrap();
+    let last = StringRef::new(100_000).unwrap();
+    // The bounds of the texts would take 400,004 bytes: without them it is a pass.
+    assert_eq!(within(399_999, || pool.get(last)), (&b"A"[..], 0));
+    let table = Table::from_bitfields(&[0x502; 8], false).unwrap();
+    let rows = vec![vec![ValueRef::Null; 8]; 60_000];
+    for bytes in [100_000, 2_000_000, 2_500_000] {
+        assert_eq!(within(bytes, || number(table.write_rows(&rows))), (7, 0));
+    }
+    let cells = vec![0; 120_000];
+    let table = Table::from_bitfields(&[0x502], false).unwrap();
+    for bytes in [299_999, 300_000, 1_800_000] {
+        assert_eq!(within(bytes, || number(table.read_rows(&cells))), (7, 0));
+    }
+    let many = vec![Column::build().int16(); 1_000_000];
+    assert_eq!(within(100_000, || number(Table::new(many, false))).0, 20);
+}
+
+#[test]
 fn rooms_grow_twofold_where_there_is_memory_and_by_what_is_needed_where_there_is_not() {
     let loaded = StringPool::load(&stream(100_000), &vec![b'A'; 100_000]).unwrap();
     // An entry takes six bytes, and the text one.

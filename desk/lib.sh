@@ -9,6 +9,9 @@ home=$(dirname "$desk")
 made=$desk/out
 crate=${STRANDROOST_CRATE:-$home/../shared/docs/src/src/internal}
 registry=${STRANDROOST_REGISTRY:-/usr/share/cargo/registry}
+# Scripts go to other folders before they look.
+case $crate in /*) ;; *) crate=$PWD/$crate ;; esac
+case $registry in /*) ;; *) registry=$PWD/$registry ;; esac
 modules="category codepage column language macros streamname stringpool table value"
 # Debian's own: another python3 that stands earlier on the path does not have Debian's packages.
 python=/usr/bin/python3
@@ -30,7 +33,8 @@ done
 # takes_none ARG..: for a script that takes no arguments
 takes_none() { [ $# -eq 0 ] || fail "$(basename "$script") takes no arguments, and was given '$1' (--help says what it does)"; }
 
-mkdir -p "$made" 2> /dev/null && [ -w "$made" ] || fail "$made cannot be written: the desk builds there"
+# writes: for a script that writes to desk/out
+writes() { mkdir -p "$made" 2> /dev/null && [ -w "$made" ] || fail "$made cannot be written: the desk builds there"; }
 
 # things PART..: what each part needs, a line each, as THING=PACKAGE: a program, a file or a source in the registry, and Debian's
 # package that has it.
@@ -80,6 +84,7 @@ have() {
         case " $asked " in *" $package "*) ;; *) wanted="$wanted $package" ;; esac
     done
     asked="$asked$wanted"
+    [ -z "$wanted" ] || writes
     if [ -n "$wanted" ] && [ "$(id -u)" != 0 ]; then
         say "not installed:$wanted. Installing takes root: apt-get update && apt-get install$wanted"
     elif [ -n "$wanted" ]; then
@@ -96,8 +101,20 @@ have() {
 # need PART..: have them, or end here
 need() { have "$@" || fail "nothing was run without $(absent "$@")"; }
 
-# build PART..: what is not there, or older than what it is made from
-build() { "$desk/build" --stale "$@" >&2 || fail "nothing was run: building $* failed"; }
+# build PART..: what is not there, or older than what it is made from; only then what builds it is needed
+build() {
+    if "$desk/build" --fresh "$@"; then return; fi
+    parts=
+    for part in "$@"; do
+        case $part in
+        crate) parts="$parts rust crate" ;;
+        tools) parts="$parts rust" ;;
+        port | package) parts="$parts rust c" ;;
+        esac
+    done
+    need $parts
+    "$desk/build" --stale "$@" >&2 || fail "nothing was run: building $* failed"
+}
 
 # The toolchain's loader, C library and emulator, found from rt itself.
 toolchain() {

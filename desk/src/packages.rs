@@ -52,12 +52,15 @@ struct Totals {
 }
 
 fn say(text: &str) {
-    // A reader that went away is no reason to panic.
-    let _ = writeln!(std::io::stdout(), "{text}");
+    // A reader that went away is no reason to stop; a full disk is.
+    match writeln!(std::io::stdout(), "{text}") {
+        Err(error) if error.kind() != std::io::ErrorKind::BrokenPipe => stop(&format!("the result cannot be written: {error}")),
+        _ => {}
+    }
 }
 
 fn stop(why: &str) -> ! {
-    eprintln!("desk: {why}");
+    progress::note(why);
     std::process::exit(2);
 }
 
@@ -74,6 +77,15 @@ fn options() -> Options {
         Err(error) => stop(&format!("no report in {}: {error}", folder.to_string_lossy())),
     });
     Options { krate, port, reader, counts, report, files }
+}
+
+/// A file's name as it is shown: what would move a terminal's cursor is spelled out.
+fn shown_name(file: &OsStr) -> String {
+    let spelled = |letter: char| match letter.is_control() {
+        true => letter.escape_default().to_string(),
+        false => letter.to_string(),
+    };
+    name_of(file).to_string_lossy().chars().map(spelled).collect()
 }
 
 fn name_of(file: &OsStr) -> &OsStr {
@@ -95,7 +107,7 @@ fn sides(options: &Options) -> Result<Both, String> {
 
 /// A package that was not opened: a line in words, and one in the report.
 fn unread(options: &mut Options, file: &OsStr, why: &str) {
-    let name = name_of(file).to_string_lossy();
+    let name = shown_name(file);
     say(&format!("{name:<24} not read: {why}"));
     if let Some(report) = &mut options.report {
         let mut fields: [String; 20] = Default::default();
@@ -112,7 +124,7 @@ fn unread(options: &mut Options, file: &OsStr, why: &str) {
 fn package(options: &mut Options, file: &OsStr, pages: &mut Pages, progress: &Progress) -> Result<Totals, String> {
     let begun = Instant::now();
     let streams = container::streams(&options.reader, file)?;
-    let name = name_of(file).to_string_lossy().into_owned();
+    let name = shown_name(file);
     progress.begin(format!("{name}: both sides are started"));
     let mut walk = Walk::new(name.clone(), sides(options)?, pages, streams, progress.clone());
     if walk.bytes_of("_StringPool").is_none() {
@@ -188,8 +200,8 @@ fn main() {
     let mut totals = Totals::default();
     let files = std::mem::take(&mut options.files);
     for (at, file) in files.iter().enumerate() {
-        let name = name_of(file).to_string_lossy();
-        eprintln!("desk: package {} of {}: {name}", at + 1, files.len());
+        let name = shown_name(file);
+        progress::note(&format!("package {} of {}: {name}", at + 1, files.len()));
         progress.begin(format!("{name}: its container"));
         match package(&mut options, file, &mut pages, &progress) {
             Ok(seen) => totals.add(seen),

@@ -55,7 +55,9 @@ fn safe(name: &[u8]) -> String {
 
 /// The name, or with a number behind it where it is taken.
 fn own_name(names: &mut BTreeMap<String, usize>, name: &[u8]) -> String {
-    let made = safe(name);
+    // A folder takes names of 255 bytes; those that are cut alike are told apart by their number.
+    let mut made = safe(name);
+    made.truncate(200);
     let count = names.entry(made.clone()).or_insert(0);
     *count += 1;
     if *count == 1 { made } else { format!("{made}~{count}") }

@@ -84,10 +84,10 @@ have() {
         case " $asked " in *" $package "*) ;; *) wanted="$wanted $package" ;; esac
     done
     asked="$asked$wanted"
-    [ -z "$wanted" ] || writes
     if [ -n "$wanted" ] && [ "$(id -u)" != 0 ]; then
         say "not installed:$wanted. Installing takes root: apt-get update && apt-get install$wanted"
     elif [ -n "$wanted" ]; then
+        writes
         say "installing$wanted"
         apt-get -qq update > "$made/apt.log" 2>&1 || say "apt-get update failed: $(tail -n 1 "$made/apt.log")"
         for package in $wanted; do

@@ -1,6 +1,6 @@
 -- The laws of `encoded` that the loops go by: what stands in front of a name becomes one unit.
 use Prim.Native.Nat.{ℕ, suc, _+_, _*_, _≤_, _<_}
-use mathlib.Core.Path.{_≡_, refl}
+use mathlib.Core.Path.{_≡_, refl, ap}
 use mathlib.Core.List.{List, [], _∷_}
 use mathlib.Core.Bool.{Bool, true, false}
 use mathlib.Core.Option.{Option, none, some}
@@ -11,7 +11,8 @@ use lib.Seq.{drop-cons}
 use Rattle.streamname.specs.Letters.{toB64}
 use Rattle.streamname.specs.Names.{encoded, greedy, pair, encodedName}
 use Rattle.streamname.specs.Calls.{encodeOutcome}
-use Rattle.streamname.specs.inner.Packing.{Front}
+use Rattle.streamname.specs.inner.Packing.{Front, Count}
+use Rattle.streamname.specs.declared.encoding.Packed.{Packed}
 use Rattle.common.specs.Lists.{_over_}
 use Rattle.common.specs.Sizes.{maxName}
 use Rattle.common.specs.Answers.{gives, refused, nowhere}
@@ -82,6 +83,15 @@ module _ (name : List ℕ) (at : ℕ) (here : at < length name) where
             within = omega arith;
             moves = omega arith;
           }
+
+-- what is counted, one packed unit further
+pub count-on : (name : List ℕ) (units at : ℕ) (p : Packed) → Count name units at → Front name at p → Count name (units + 1) (at + p .used)
+count-on name units at p c f =
+    record {
+      fewer = omega (arith, c .fewer, f .moves);
+      within = f .within;
+      counted = omega (arith, c .counted, ap length (f .packs));
+    }
 
 -- past the end nothing is left
 pub encoded-end : (name : List ℕ) (i : ℕ) → length name ≤ i → encoded (drop i name) ≡ []

@@ -1,20 +1,23 @@
--- Laws of the 64 letters: the code's ranges are the list's places, and a letter's number gives it back.
--- Each is one computed test over all the units below 0x7B, past which there is no letter, or over all 64 numbers.
-use Prim.Native.Nat.{ℕ, _+_, _-_, _≤_, _<_}
+-- Laws of the 64 letters: the code's table has the list's places, its ranges give each number's letter, and a letter's number gives
+-- it back. Each is one computed test: over the 128 units of the table, over those below 0x7B, past which there is no letter, or over
+-- all 64 numbers.
+use Prim.Native.Nat.{ℕ, zero, suc, _+_, _-_, _≤_, _<_}
 use mathlib.Core.Path.{_≡_, refl, sym, ap, _∙_}
-use mathlib.Core.Logic.{_≢_}
 use mathlib.Core.Bool.{Bool, true, false, _&&_}
-use mathlib.Core.List.{List, [], _∷_}
+use mathlib.Core.List.{List, [], _∷_, map}
 use mathlib.Core.Option.{Option, none, some}
 use native.Mathlib.Omega.{arith}
+use native.Mathlib.Nat.{add-zero, zero-add, add-suc, suc-add, le-of-suc-le-suc, not-suc-le-zero}
 use native.Mathlib.Decide.{decLt}
 use lib.Dec.{T, leb, ltb, eqb, ltb→lt, eqb→eq}
-use lib.ListN.{length, List·getD-eq-default}
+use lib.ListN.{length, getD, List·getD-eq-default}
 use borrow.Author.Tests.{le-leb, lt-leb, ne-eqb, leb-true}
 use Rattle.common.specs.Choice.{if_then_else_, _<?_, _=?_}
+use Rattle.common.specs.Lists.{from}
 use Rattle.common.proofs.Below.{both, allBelow, each}
 use Rattle.streamname.specs.Letters.{letters, placeIn, toB64, fromB64}
 use Rattle.streamname.specs.Names.{between}
+use Rattle.streamname.specs.inner.Packing.{orSixtyFour, letterNumbers}
 
 pub inside : (low high u : ℕ) → low ≤ u → u ≤ high → between low high u ≡ true
 inside low high u p q = simp (le-leb low u p, le-leb u high q)
@@ -26,40 +29,16 @@ outside low high u h = go (leb low u) refl
     go true e = lt-leb u high (h (leb-true low u e))
     go false e = refl
 
--- ---- the number of a letter, by the ranges that the code tests
+-- ---- the number of a letter, as the table has it
 
-ranged : ℕ → Option ℕ
-ranged u =
-    if between 0x30 0x39 u then some (u - 0x30)
-    else if between 0x41 0x5A u then some (u - 0x41 + 10)
-    else if between 0x61 0x7A u then some (u - 0x61 + 36)
-    else if u =? 0x2E then some 62
-    else if u =? 0x5F then some 63
-    else none
+map-from : (f : ℕ → ℕ) (k n i d : ℕ) → i < n → getD (map f (from k n)) i d ≡ f (k + i)
+map-from f k zero i d h = absurd (not-suc-le-zero h)
+map-from f k (suc n) zero d h = ap f (sym (add-zero k))
+map-from f k (suc n) (suc i) d h = map-from f (suc k) n i d (le-of-suc-le-suc h) ∙ ap f (suc-add k i ∙ sym (add-suc k i))
 
-ranged-none : (u : ℕ) → (0x30 ≤ u → 0x39 < u) → (0x41 ≤ u → 0x5A < u) → (0x61 ≤ u → 0x7A < u) → u ≢ 0x2E → u ≢ 0x5F → ranged u ≡ none
-unfolding ranged
-ranged-none u d c l p q =
-    simp (outside 0x30 0x39 u d, outside 0x41 0x5A u c, outside 0x61 0x7A u l, ne-eqb u 0x2E p, ne-eqb u 0x5F q)
-
-abbrev alike : Option ℕ → Option ℕ → Bool
-alike none none = true
-alike none (some b) = false
-alike (some a) none = false
-alike (some a) (some b) = eqb a b
-
-alike-same : (x y : Option ℕ) → T (alike x y) → x ≡ y
-alike-same none none t = refl
-alike-same none (some b) t = absurd t
-alike-same (some a) none t = absurd t
-alike-same (some a) (some b) t = ap some (eqb→eq a b t)
-
-abbrev rangesRight : ℕ → Bool
-rangesRight u = alike (toB64 u) (ranged u)
-
-all-right : T (allBelow rangesRight 0x7B)
-unfolding letters ranged
-all-right = tt
+pub looked-up : (u : ℕ) → u < 128 → getD letterNumbers u 0 ≡ orSixtyFour (toB64 u)
+unfolding letterNumbers
+looked-up u h = map-from (λ v. orSixtyFour (toB64 v)) 0 128 u 0 h ∙ ap (λ v. orSixtyFour (toB64 v)) (zero-add u)
 
 abbrev allUnder : ℕ → List ℕ → Bool
 allUnder b [] = true
@@ -75,38 +54,9 @@ all-under : T (allUnder 0x7B letters)
 unfolding letters
 all-under = tt
 
-ranges : (u : ℕ) → toB64 u ≡ ranged u
-ranges u = go (decLt u 0x7B)
-  where
-    go : Dec (u < 0x7B) → toB64 u ≡ ranged u
-    go (yes h) = alike-same (toB64 u) (ranged u) (each rangesRight 0x7B all-right u h)
-    go (no h) =
-        absent letters 0x7B u all-under (omega arith)
-        ∙ sym (ranged-none u (omega arith) (omega arith) (omega arith) (omega arith) (omega arith))
-
-module _ (u : ℕ) where
-  pub digit : 0x30 ≤ u → u ≤ 0x39 → some (u - 0x30) ≡ toB64 u
-  unfolding ranged
-  digit p q = rw (ranges u) (simp (inside 0x30 0x39 u p q))
-
-  pub upper : 0x41 ≤ u → u ≤ 0x5A → some (u - 0x41 + 10) ≡ toB64 u
-  unfolding ranged
-  upper p q = rw (ranges u) (simp (outside 0x30 0x39 u (omega arith), inside 0x41 0x5A u p q))
-
-  pub lower : 0x61 ≤ u → u ≤ 0x7A → some (u - 0x61 + 36) ≡ toB64 u
-  unfolding ranged
-  lower p q = rw (ranges u) (simp (outside 0x30 0x39 u (omega arith), outside 0x41 0x5A u (omega arith), inside 0x61 0x7A u p q))
-
-  pub other : (0x30 ≤ u → 0x39 < u) → (0x41 ≤ u → 0x5A < u) → (0x61 ≤ u → 0x7A < u) → u ≢ 0x2E → u ≢ 0x5F → none ≡ toB64 u
-  other d c l p q = sym (ranges u ∙ ranged-none u d c l p q)
-
-pub dot : some 62 ≡ toB64 0x2E
-unfolding letters
-dot = refl
-
-pub underscore : some 63 ≡ toB64 0x5F
-unfolding letters
-underscore = refl
+-- past the last letter there is none
+pub past : (u : ℕ) → 0x7A < u → none ≡ toB64 u
+past u h = sym (absent letters 0x7B u all-under h)
 
 -- ---- the letter of a number, by the ranges that the code tests
 
@@ -179,3 +129,20 @@ module _ (u a : ℕ) (e : toB64 u ≡ some a) where
 
   pub letter-small : u < 0x7B
   letter-small = rw letter-back at (from-small a)
+
+-- ---- a number of the table says which letter its unit is, or that it is none
+
+module _ (u n : ℕ) (e : n ≡ orSixtyFour (toB64 u)) where
+  pub is-letter : n < 64 → some n ≡ toB64 u
+  is-letter h = go (toB64 u) refl
+    where
+      go : (x : Option ℕ) → toB64 u ≡ x → some n ≡ x
+      go none p = absurd (let q : n ≡ 64 = rw p at e in omega arith)
+      go (some a) p = ap some (rw p at e)
+
+  pub is-other : 64 ≤ n → none ≡ toB64 u
+  is-other h = go (toB64 u) refl
+    where
+      go : (x : Option ℕ) → toB64 u ≡ x → none ≡ x
+      go none p = refl
+      go (some a) p = absurd (let q : n ≡ a = rw p at e in omega (arith, letter-below u a p))

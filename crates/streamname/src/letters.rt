@@ -2,7 +2,7 @@
 ghost use mathlib.Core.Path.{_≡_};
 ghost use Prim.Native.Nat.{_<_};
 ghost use Rattle.streamname.specs.Letters.{toB64, fromB64};
-ghost use Rattle.streamname.specs.inner.Packing.{letterOf};
+ghost use Rattle.streamname.specs.inner.Packing.{letterOf, letterNumbers};
 
 // What a unit is to the packing: one of the 64 letters, by its number, or any other unit.
 pub(crate) enum Packing {
@@ -10,33 +10,168 @@ pub(crate) enum Packing {
     Other,
 }
 
-// The number of a letter: digits, A-Z, a-z, '.' and '_' are 0 to 63. Small letters, the most frequent, are told by two tests.
-pub(crate) fn to_b64(unit: u16) -> Packing
+// The number of each unit below 128: 0 to 63 for a letter (digits, A-Z, a-z, '.' and '_'), 64 for any other.
+const NUMBERS: [u8; 128] = [
+    // 00 to 2D
+    64,
+    64,
+    64,
+    64,
+    64,
+    64,
+    64,
+    64,
+    64,
+    64,
+    64,
+    64,
+    64,
+    64,
+    64,
+    64,
+    64,
+    64,
+    64,
+    64,
+    64,
+    64,
+    64,
+    64,
+    64,
+    64,
+    64,
+    64,
+    64,
+    64,
+    64,
+    64,
+    64,
+    64,
+    64,
+    64,
+    64,
+    64,
+    64,
+    64,
+    64,
+    64,
+    64,
+    64,
+    64,
+    64,
+    // '.'
+    62,
+    // 2F
+    64,
+    // 0 to 9
+    0,
+    1,
+    2,
+    3,
+    4,
+    5,
+    6,
+    7,
+    8,
+    9,
+    // 3A to 40
+    64,
+    64,
+    64,
+    64,
+    64,
+    64,
+    64,
+    // A to Z
+    10,
+    11,
+    12,
+    13,
+    14,
+    15,
+    16,
+    17,
+    18,
+    19,
+    20,
+    21,
+    22,
+    23,
+    24,
+    25,
+    26,
+    27,
+    28,
+    29,
+    30,
+    31,
+    32,
+    33,
+    34,
+    35,
+    // 5B to 5E
+    64,
+    64,
+    64,
+    64,
+    // '_'
+    63,
+    // 60
+    64,
+    // a to z
+    36,
+    37,
+    38,
+    39,
+    40,
+    41,
+    42,
+    43,
+    44,
+    45,
+    46,
+    47,
+    48,
+    49,
+    50,
+    51,
+    52,
+    53,
+    54,
+    55,
+    56,
+    57,
+    58,
+    59,
+    60,
+    61,
+    // 7B to 7F
+    64,
+    64,
+    64,
+    64,
+    64,
+];
+
+// The table as a value, which the loops over a name lend to `to_b64`. The compiler lays a constant array down anew in the function that
+// names it: so once for a name, and not for each unit.
+pub(crate) fn numbers() -> [u8; 128]
+    ensures { λ r. ⌜ r ≡ letterNumbers ⌝ }
+{
+    NUMBERS
+}
+
+// The number of a letter. A unit past the table is told before it is looked up, and never cut to fit.
+pub(crate) fn to_b64(unit: u16, numbers: &[u8; 128]) -> Packing
+    requires { ⌜ now numbers ≡ letterNumbers ⌝ }
     ensures { λ r. ⌜ letterOf r ≡ toB64 unit ⌝ }
 {
-    if 0x60 < unit {
-        if unit < 0x7B {
-            return Packing::Letter(unit - 0x61 + 36);
-        }
+    if 127 < unit {
         return Packing::Other;
     }
-    if 0x40 < unit {
-        if unit < 0x5B {
-            return Packing::Letter(unit - 0x41 + 10);
-        }
-        if unit == 0x5F {
-            return Packing::Letter(63);
-        }
-        return Packing::Other;
-    }
-    if unit < 0x30 {
-        if unit == 0x2E {
-            return Packing::Letter(62);
-        }
-        return Packing::Other;
-    }
-    if unit < 0x3A {
-        return Packing::Letter(unit - 0x30);
+    let number = numbers[unit as usize];
+    if number < 64 {
+        return Packing::Letter(number as u16);
     }
     Packing::Other
 }

@@ -20,28 +20,28 @@ b-is : (c : tie.After-known-told2) → toB64 (getD (now (c .before .before .befo
 b-is c = sym (c .before .before .before .to-b642 .ensures) ∙ ap letterOf (c .before .b .given .1)
 
 returns : tie.Need-returns
-returns c = front-passes _ _ (c .before .before .before .before .before .pre) (sym (c .before .before .to-b64 .ensures) ∙ ap letterOf (c .enum-told .given .1))
+returns c = front-passes _ _ (c .before .before .before .before .before .pre .0) (sym (c .before .before .to-b64 .ensures) ∙ ap letterOf (c .enum-told .given .1))
 
 add-to-b64 : tie.Need-add-to-b64
 add-to-b64 c = omega (arith, letter-below _ _ (a-is c))
 
 returns-2 : tie.Need-returns-2
-returns-2 c = front-last _ _ (c .before .before .before .before .before .before .before .pre) _ (a-is (c .before)) (c .if1 .taken)
+returns-2 c = front-last _ _ (c .before .before .before .before .before .before .before .pre .0) _ (a-is (c .before)) (c .if1 .taken)
 
 returns-3 : tie.Need-returns-3
-returns-3 c = front-lone _ _ (c .before .before .before .before .before .before .before .before .before .before .before .pre) _ (a-is (c .before .before .before .before .before)) (c .before .before .before .before .if1 .left) (sym (c .before .before .to-b642 .ensures) ∙ ap letterOf (c .enum-told2 .given .1))
+returns-3 c = front-lone _ _ (c .before .before .before .before .before .before .before .before .before .before .before .pre .0) _ (a-is (c .before .before .before .before .before)) (c .before .before .before .before .if1 .left) (sym (c .before .before .to-b642 .ensures) ∙ ap letterOf (c .enum-told2 .given .1))
 
-mul-t10 : tie.Need-mul-t10
-mul-t10 c = omega (arith, letter-below _ _ (a-is (c .before .before .before .before .before .before)), letter-below _ _ (b-is c))
-
-add-t15 : tie.Need-add-t15
-add-t15 c = omega (arith, letter-below _ _ (a-is (c .before .before .before .before .before .before)), letter-below _ _ (b-is c))
+mul-t11 : tie.Need-mul-t11
+mul-t11 c = omega (arith, letter-below _ _ (a-is (c .before .before .before .before .before .before)), letter-below _ _ (b-is c))
 
 add-t16 : tie.Need-add-t16
 add-t16 c = omega (arith, letter-below _ _ (a-is (c .before .before .before .before .before .before)), letter-below _ _ (b-is c))
 
+add-t17 : tie.Need-add-t17
+add-t17 c = omega (arith, letter-below _ _ (a-is (c .before .before .before .before .before .before)), letter-below _ _ (b-is c))
+
 returns-4 : tie.Need-returns-4
-returns-4 c = front-pair _ _ (c .before .before .before .before .before .before .before .before .before .before .before .before .pre) _ (a-is (c .before .before .before .before .before .before)) (c .before .before .before .before .before .if1 .left) _ (b-is c)
+returns-4 c = front-pair _ _ (c .before .before .before .before .before .before .before .before .before .before .before .before .pre .0) _ (a-is (c .before .before .before .before .before .before)) (c .before .before .before .before .before .if1 .left) _ (b-is c)
 
 pub pack-spec : {M : Type 1} → statement M
 pack-spec =
@@ -62,7 +62,7 @@ pack-spec =
     (λ c. search needs)
     (λ c. search needs)
     returns-3
-    mul-t10
-    add-t15
+    mul-t11
     add-t16
+    add-t17
     returns-4)

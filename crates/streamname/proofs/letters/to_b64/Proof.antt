@@ -1,50 +1,26 @@
 use borrow.Author.Needs.{needs}
 use native.Mathlib.Omega.{arith}
-use Rattle.streamname.proofs.LetterLaws.{digit, upper, lower, other, dot, underscore}
+use mathlib.Core.Path.{_≡_}
+use lib.ListN.{getD}
+use denote.Ref.{now}
+use Rattle.streamname.specs.Letters.{toB64}
+use Rattle.streamname.specs.inner.Packing.{orSixtyFour}
+use Rattle.streamname.proofs.LetterLaws.{looked-up, past, is-letter, is-other}
 use Rattle.streamname.proofs.letters.to_b64.Statement.{statement}
 use Rattle.streamname.proofs.letters.to_b64.Tie as tie
 
+-- what was read is the table's number of the unit
+number-is : (c : tie.After-number) → getD (now (c .before .before .args .numbers)) (c .before .before .args .unit) 0 ≡ orSixtyFour (toB64 (c .before .before .args .unit))
+number-is c = rw (c .before .before .pre) (looked-up _ (omega arith))
+
 returns : tie.Need-returns
-returns c = lower _ (omega arith) (omega arith)
+returns c = past _ (omega arith)
 
 returns-2 : tie.Need-returns-2
-returns-2 c = other _ (omega arith) (omega arith) (omega arith) (omega arith) (omega arith)
+returns-2 c = is-letter _ _ (number-is (c .before)) (omega arith)
 
 returns-3 : tie.Need-returns-3
-returns-3 c = upper _ (omega arith) (omega arith)
-
-returns-4 : tie.Need-returns-4
-returns-4 c = rw (c .if5 .taken) underscore
-
-returns-5 : tie.Need-returns-5
-returns-5 c = other _ (omega arith) (omega arith) (omega arith) (omega arith) (omega arith)
-
-returns-6 : tie.Need-returns-6
-returns-6 c = rw (c .if7 .taken) dot
-
-returns-7 : tie.Need-returns-7
-returns-7 c = other _ (omega arith) (omega arith) (omega arith) (omega arith) (omega arith)
-
-returns-8 : tie.Need-returns-8
-returns-8 c = digit _ (omega arith) (omega arith)
-
-returns-9 : tie.Need-returns-9
-returns-9 c = other _ (omega arith) (omega arith) (omega arith) (omega arith) (omega arith)
+returns-3 c = is-other _ _ (number-is (c .before)) (omega arith)
 
 pub to-b64-spec : {M : Type 1} → statement M
-to-b64-spec =
-    tie.close
-    (tie.spec
-    (λ c. search needs)
-    (λ c. search needs)
-    returns
-    returns-2
-    (λ c. search needs)
-    (λ c. search needs)
-    returns-3
-    returns-4
-    returns-5
-    returns-6
-    returns-7
-    returns-8
-    returns-9)
+to-b64-spec = tie.close (tie.spec returns (λ c. search needs) (λ c. search needs) returns-2 returns-3)

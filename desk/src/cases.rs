@@ -10,6 +10,8 @@ const EDGE_UNITS: [u16; 20] = [
     0x483f, 0x4840, 0x4841, 0xe000, 0xffff,
 ];
 const LETTERS: &[u8; 64] = b"0123456789ABCDEFGHIJKLMNOPQRSTUVWXYZabcdefghijklmnopqrstuvwxyz._";
+/// Units that are no letters, beside those that are: between the ranges, at the end of a table of 128, and "a" with bit 7 or 8 set.
+const BESIDE_LETTERS: [u16; 8] = [0x0040, 0x005b, 0x0060, 0x007b, 0x007f, 0x0080, 0x00e1, 0x0161];
 /// Code pages that the crate knows and writes back as themselves.
 const PAGES: [u32; 6] = [1252, 1250, 932, 28591, 20127, 65001];
 const EDGE_INTEGERS: [i32; 12] =
@@ -86,6 +88,7 @@ impl Cases {
     pub fn all(&mut self, emit: &mut dyn FnMut(Case)) {
         self.short_names(emit);
         self.names(emit);
+        Cases::beside_letters(emit);
         self.short_pools(emit);
         self.pools(emit);
         self.traces(emit);
@@ -122,6 +125,7 @@ impl Cases {
         self.short_pools(&mut short);
         self.pools(&mut short);
         self.three_texts(&mut short);
+        Cases::beside_letters(&mut short);
     }
 
     // ------------------------------------------------------------ names
@@ -178,6 +182,15 @@ impl Cases {
             emit(vec![format!("valid 1 {}", word_units(&name))]);
             // Half as many packed units are the most that unpack to a name within the size.
             emit(vec![format!("dec 4840{}", word_units(&vec![0x3fff; 32_767]))]);
+        }
+    }
+
+    /// Each alone, before a letter and after one.
+    fn beside_letters(emit: &mut dyn FnMut(Case)) {
+        for unit in BESIDE_LETTERS {
+            for name in [&[unit][..], &[unit, 0x61], &[0x61, unit]] {
+                name_commands(&word_units(name), emit);
+            }
         }
     }
 

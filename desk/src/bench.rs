@@ -22,12 +22,14 @@ mod internal {
 }
 
 mod file_table;
+mod random;
 
 use internal::column::Column;
 use internal::streamname;
 use internal::stringpool::{StringPool, StringPoolBuilder, StringRef};
 use internal::table::Table;
 use internal::value::ValueRef;
+use random::Random;
 use std::hint::black_box;
 use std::io::Cursor;
 use std::rc::Rc;
@@ -75,25 +77,32 @@ fn show(what: &str, size: usize, krate: f64, port: f64) {
 
 // ---------------------------------------------------------------- names
 
-fn names() -> Vec<String> {
+/// Such names as a packer makes: their letters come in runs of one kind.
+fn packer_names() -> Vec<String> {
     (0..1000).map(|n| format!("Component{n:05}_FontTable-{}", n % 7)).collect()
 }
 
-fn bench_names() {
-    let plain = names();
+/// Names of 26 letters drawn from all 64, so that nothing foretells what kind the next one is. The crate says what the 64 are.
+fn drawn_names() -> Vec<String> {
+    let letters: Vec<char> = streamname::decode(&('\u{4800}'..='\u{483f}').collect::<String>()).0.chars().collect();
+    let mut random = Random::new(1);
+    (0..1000).map(|_| (0..26).map(|_| random.pick(&letters)).collect()).collect()
+}
+
+fn bench_names(kind: &str, plain: &[String]) {
     let units: Vec<Vec<u16>> = plain.iter().map(|name| name.encode_utf16().collect()).collect();
     let stored: Vec<String> = plain.iter().map(|name| streamname::encode(name, true)).collect();
     let stored_units: Vec<Vec<u16>> = stored.iter().map(|name| name.encode_utf16().collect()).collect();
     let mut out = vec![0u16; 80];
     let krate = timed(20, || (), |()| plain.iter().for_each(|name| drop(black_box(streamname::encode(name, true)))));
     let port = timed(20, || (), |()| units.iter().for_each(|name| drop(black_box(calls::encode(name, true, &mut out)))));
-    show("encode", 1000, krate, port);
+    show(&format!("encode{kind}"), plain.len(), krate, port);
     let krate = timed(20, || (), |()| stored.iter().for_each(|name| drop(black_box(streamname::decode(name)))));
     let port = timed(20, || (), |()| stored_units.iter().for_each(|name| drop(black_box(calls::decode(name, &mut out)))));
-    show("decode", 1000, krate, port);
+    show(&format!("decode{kind}"), plain.len(), krate, port);
     let krate = timed(20, || (), |()| plain.iter().for_each(|name| drop(black_box(streamname::is_valid(name, true)))));
     let port = timed(20, || (), |()| units.iter().for_each(|name| drop(black_box(calls::is_valid(name, true)))));
-    show("is_valid", 1000, krate, port);
+    show(&format!("is_valid{kind}"), plain.len(), krate, port);
 }
 
 // ----------------------------------------------------------------- pool
@@ -312,7 +321,8 @@ fn bench_walk(files: usize) {
 /// With `--quick` the largest sizes are left out.
 fn main() {
     let sizes = if std::env::args().any(|word| word == "--quick") { 2 } else { 3 };
-    bench_names();
+    bench_names("", &packer_names());
+    bench_names(", all 64 letters", &drawn_names());
     bench_pools(&[1_000, 10_000, 60_000][..sizes]);
     for rows in &[1_000, 10_000, 65_536][..sizes] {
         bench_table(*rows);

@@ -1,6 +1,7 @@
 # The goals, and what was measured beside them: the ratios of port over crate, over all lines and programs that a goal speaks of.
 BEGIN {
-    goal("encode, decode, is_valid", 0.4, "^(encode|decode|is_valid)$", 0)
+    goal("encode, is_valid", 0.35, "^(encode|is_valid)(,|$)", 0)
+    goal("decode", 0.4, "^decode(,|$)", 0)
     goal("load, write_pool", 0.1, "^(load|write_pool)$", 0)
     goal("take at 60,000, equal lengths", 0.4, "^take, .*equal lengths$", 60000)
     goal("take at 60,000, mixed lengths", 0.7, "^take, .*mixed lengths$", 60000)
@@ -20,6 +21,6 @@ END {
     print "| call | goal | measured | |"
     print "|---|---:|---|---|"
     for (i = 1; i <= n; i++)
-        if (!high[i]) printf "| %s | %.1f | not measured | |\n", names[i], goals[i]
-        else printf "| %s | %.1f | %.2f to %.2f | %s |\n", names[i], goals[i], low[i], high[i], high[i] <= goals[i] ? "met" : "not met: " worst[i]
+        if (!high[i]) printf "| %s | %.2g | not measured | |\n", names[i], goals[i]
+        else printf "| %s | %.2g | %.2f to %.2f | %s |\n", names[i], goals[i], low[i], high[i], high[i] <= goals[i] ? "met" : "not met: " worst[i]
 }

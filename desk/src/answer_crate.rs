@@ -19,6 +19,7 @@ mod internal {
 }
 mod crate_side;
 mod language;
+mod requests;
 
 fn main() -> std::io::Result<()> {
     // The domain is the crate built without debug assertions.

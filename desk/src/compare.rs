@@ -6,9 +6,10 @@ mod language;
 mod lent;
 mod pipes;
 mod random;
+mod requests;
 
 use cases::{Case, Cases};
-use pipes::Both;
+use pipes::{Both, ENDED};
 use std::collections::BTreeMap;
 use std::io::Write;
 use std::time::Instant;
@@ -32,9 +33,39 @@ fn kind(line: &str) -> String {
     line.split(' ').next().unwrap_or("").to_string()
 }
 
-/// The first line on which the sides differ.
-fn difference(answers: &(Vec<String>, Vec<String>)) -> Option<usize> {
-    answers.0.iter().zip(&answers.1).position(|(krate, port)| krate != port || krate == "(ended)")
+/// What the port has to answer to a line, and who says so: the crate, or document 02 where it changed the crate's answer.
+struct Wanted {
+    who: &'static str,
+    answer: String,
+}
+
+const BY_REQUEST: &str = "document 02";
+
+impl Wanted {
+    fn new(line: &str, krate: String) -> Wanted {
+        let instead = if krate == "outside" { requests::instead_of(line) } else { None };
+        match instead {
+            Some(answer) => Wanted { who: BY_REQUEST, answer },
+            None => Wanted { who: "crate", answer: krate },
+        }
+    }
+}
+
+/// A line on which the port answers otherwise.
+struct Difference {
+    at: usize,
+    wanted: Wanted,
+    port: String,
+}
+
+/// What was wanted on each line, where the port answers so; else the first on which it does not.
+fn asked(both: &mut Both, lines: &[String]) -> Result<Vec<Wanted>, Difference> {
+    let (krate, mut port) = both.ask(lines);
+    let mut wanted: Vec<Wanted> = lines.iter().zip(krate).map(|(line, krate)| Wanted::new(line, krate)).collect();
+    match wanted.iter().zip(&port).position(|(wanted, port)| wanted.answer != *port || port == ENDED) {
+        Some(at) => Err(Difference { at, wanted: wanted.swap_remove(at), port: port.swap_remove(at) }),
+        None => Ok(wanted),
+    }
 }
 
 impl Run {
@@ -57,13 +88,17 @@ impl Run {
         let cases = std::mem::take(&mut self.waiting);
         (self.lines, self.bytes) = (0, 0);
         let lines: Vec<String> = cases.concat();
-        let answers = self.both.ask(&lines);
-        if let Some(at) = difference(&answers) {
-            self.report(&cases, at, &answers);
-        }
-        for (line, answer) in lines.iter().zip(&answers.0) {
-            // The generator emits nothing outside the domain but where a damaged text is read, which the crate says.
-            let word = if answer == "outside" || answer == "bad" { "(outside)".into() } else { kind(line) };
+        let wanted = match asked(&mut self.both, &lines) {
+            Ok(wanted) => wanted,
+            Err(found) => self.report(&cases, found),
+        };
+        for (line, wanted) in lines.iter().zip(&wanted) {
+            let word = match wanted.answer.as_str() {
+                // The generator emits nothing else outside the domain but where a damaged text is read, which the crate says.
+                "outside" | "bad" => "(outside)".into(),
+                _ if wanted.who == BY_REQUEST => "(by request)".into(),
+                _ => kind(line),
+            };
             *self.agreed.entry(word).or_default() += 1;
         }
         self.total += lines.len() as u64;
@@ -79,30 +114,27 @@ impl Run {
     }
 
     /// Whether a case run alone still shows a difference, and which.
-    fn alone(&self, case: &[String]) -> Option<(usize, String, String)> {
+    fn alone(&self, case: &[String]) -> Option<Difference> {
         let mut both = Both::start(&self.sides[0], &self.sides[1]).ok()?;
-        let answers = both.ask(case);
-        let at = difference(&answers)?;
-        Some((at, answers.0[at].clone(), answers.1[at].clone()))
+        asked(&mut both, case).err()
     }
 
-    fn report(&mut self, cases: &[Case], line: usize, answers: &(Vec<String>, Vec<String>)) -> ! {
-        let (mut before, mut found) = (0, &cases[0]);
+    fn report(&mut self, cases: &[Case], found: Difference) -> ! {
+        let line = found.at;
+        let (mut before, mut around) = (0, &cases[0]);
         for case in cases {
-            found = case;
+            around = case;
             if line < before + case.len() {
                 break;
             }
             before += case.len();
         }
-        let case = found[..=line - before].to_vec();
+        let case = around[..=line - before].to_vec();
         eprintln!("\ncompare: they differ; looking for a smaller input");
         let smallest = self.smallest(case);
         println!("DIFFERED after {} commands that agreed", self.total);
-        match self.alone(&smallest) {
-            Some((_, krate, port)) => println!("{}\n  crate: {krate}\n  port:  {port}", smallest.join("\n")),
-            None => println!("{}\n  crate: {}\n  port:  {}", smallest.join("\n"), answers.0[line], answers.1[line]),
-        }
+        let Difference { wanted: Wanted { who, answer }, port, .. } = self.alone(&smallest).unwrap_or(found);
+        println!("{}\n  {who}: {answer}\n  port: {port}", smallest.join("\n"));
         std::process::exit(1);
     }
 
@@ -113,7 +145,7 @@ impl Run {
             better = false;
             for smaller in smaller_cases(&case) {
                 tries -= 1;
-                if let Some((at, ..)) = self.alone(&smaller) {
+                if let Some(Difference { at, .. }) = self.alone(&smaller) {
                     case = smaller[..=at].to_vec();
                     better = true;
                     break;

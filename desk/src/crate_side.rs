@@ -7,14 +7,14 @@ use crate::internal::streamname;
 use crate::internal::stringpool::{StringPool, StringPoolBuilder, StringRef};
 use crate::internal::table::{Rows, Table};
 use crate::internal::value::{Value as CrateValue, ValueRef};
-use crate::language::{Answer, Cell, Command, Layout, Made, Place, Spec, Type, Value};
+use crate::language::{Answer, Cell, Command, Layout, Made, Place, Spec, Type, Value, MAX_NAME};
+use crate::requests;
 use std::io::{self, Cursor, Read};
 use std::panic::{catch_unwind, AssertUnwindSafe};
 use std::rc::Rc;
 
 const MAX_BYTES: usize = 268_435_455;
 const MAX_ENTRIES: u32 = 16_777_215;
-const MAX_NAME: usize = 65_535;
 const MAX_STORED: usize = 65_536;
 const MAX_COLUMNS: usize = 64;
 const MAX_ROWS: usize = 65_536;
@@ -125,6 +125,9 @@ impl CrateSide {
     }
 
     fn asked(&mut self, command: Command) -> Asked<Answer> {
+        if !self.raw && requests::instead(&command).is_some() {
+            return Err(Stop::Outside);
+        }
         Ok(match command {
             Command::Enc(table, name) => units(&streamname::encode(&self.name(&name, MAX_NAME)?, table)),
             Command::Dec(name) => self.decoded(&name)?,

@@ -14,6 +14,8 @@ pub enum Rule {
     Mark,
     Name,
     Columns,
+    /// By document 02.
+    Forbidden,
 }
 
 impl Rule {
@@ -25,6 +27,7 @@ impl Rule {
             Rule::Mark => "a text whose byte-order mark the crate takes away",
             Rule::Name => "a stream name that is no well-formed UTF-16 and cannot be said to the crate",
             Rule::Columns => "a layout of over 64 columns, which the port refuses",
+            Rule::Forbidden => "a name that the container will not take or that would be shown as another, to which the crate says yes",
         }
     }
 
@@ -37,6 +40,7 @@ impl Rule {
             Rule::Mark => "load e404000003000100 efbbbf; show 1",
             Rule::Name => "enc 0 d800",
             Rule::Columns => "read 0 1282,1282,",
+            Rule::Forbidden => "valid 0 0066006f006e00740073002f006c006100740069006e",
         }
     }
 }

@@ -74,6 +74,8 @@ static void names(void)
     struct strandroost_name decoded = strandroost_decode(out, 2, out + 2, 0);
     expect("an output of no unit: 7", decoded.refused.number == 7);
     expect("\"Ab\" is valid", strandroost_is_valid(name, 2, true).value);
+    uint16_t slash[] = {'A', '/'};
+    expect("\"A/\" is not", !strandroost_is_valid(slash, 2, true).value);
 }
 
 static void pool(void)

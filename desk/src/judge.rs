@@ -31,6 +31,16 @@ pub fn whole(findings: &mut Findings, place: impl FnOnce() -> String, krate: &st
     }
 }
 
+/// The port's answer where document 02 has another than the crate: held to that, and expected where the crate departs from it.
+pub fn by_request(findings: &mut Findings, place: impl FnOnce() -> String, rule: Rule, [wanted, krate, port]: [&str; 3]) {
+    if port != wanted {
+        let said = [("crate", krate), ("port", port), ("document 02", wanted)];
+        findings.differ(place, &said.map(|(who, answer)| (who, shown::answer(answer))));
+    } else if krate != port {
+        findings.expect(rule, place);
+    }
+}
+
 /// The bytes of an answer `ok BYTES`.
 pub fn bytes_given(answer: &str) -> Option<Vec<u8>> {
     bytes_of(answer.strip_prefix("ok ")?)

@@ -1,6 +1,9 @@
 //! The command language of PROTOCOL.md: commands as they are read, answers as they are written.
 //! Neither side's types occur here, so that the crate and the port are asked and answer in the same words.
 
+/// The most units of a name.
+pub const MAX_NAME: usize = 65_535;
+
 #[derive(Clone, Copy, Debug, PartialEq)]
 pub enum Cell {
     Null,

@@ -14,6 +14,7 @@ mod reading;
 #[path = "../../rust/src/refusal.rs"]
 mod refusal;
 mod report;
+mod requests;
 mod shown;
 mod summary;
 mod walk;

@@ -8,6 +8,7 @@ use crate::pipes::{Both, Side, ENDED};
 use crate::progress::Progress;
 use crate::refusal::Refusal;
 use crate::report::Folder;
+use crate::requests;
 use crate::shown;
 use std::collections::HashMap;
 
@@ -184,6 +185,8 @@ impl<'a> Walk<'a> {
                 if command == "dec" && port[at] != own {
                     let said = [("crate", &krate[at]), ("port", &port[at]), ("package", &own)];
                     self.findings.differ(place, &said.map(|(who, name)| (who, shown::name(name))));
+                } else if let Some(wanted) = requests::instead_of(&lines[at]) {
+                    judge::by_request(&mut self.findings, place, Rule::Forbidden, [&wanted, &krate[at], &port[at]]);
                 } else if ill_formed && krate[at] == "outside" && port[at].starts_with("ok") {
                     self.findings.expect(Rule::Name, place);
                 } else {

@@ -1,5 +1,6 @@
 -- Lists as the definitions speak of them: a result written over a room, lists joined, numbers counted up and summed.
 use Prim.Native.Nat.{ℕ, zero, suc, _+_}
+use mathlib.Core.Bool.{Bool, true, _&&_}
 use mathlib.Core.List.{List, [], _∷_, _++_}
 use lib.ListN.{length, take, drop}
 
@@ -26,3 +27,8 @@ from k (suc n) = k ∷ from (suc k) n
 abbrev pub total : List ℕ → ℕ
 total [] = 0
 total (x ∷ xs) = x + total xs
+
+-- whether all pass the test
+abbrev pub every : {A : Type 0} → (A → Bool) → List A → Bool
+every f [] = true
+every f (x ∷ xs) = f x && every f xs

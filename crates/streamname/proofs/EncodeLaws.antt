@@ -1,19 +1,22 @@
 -- The laws of `encoded` that the loops go by: what stands in front of a name becomes one unit.
 use Prim.Native.Nat.{ℕ, suc, _+_, _*_, _≤_, _<_}
-use mathlib.Core.Path.{_≡_, refl, ap}
+use mathlib.Core.Path.{_≡_, refl, sym, ap, _∙_}
 use mathlib.Core.List.{List, [], _∷_}
-use mathlib.Core.Bool.{Bool, true, false}
+use mathlib.Core.Bool.{Bool, true, false, _&&_, _||_}
 use mathlib.Core.Option.{Option, none, some}
 use native.Mathlib.Omega.{arith}
 use native.Mathlib.Numerals.{add-one}
 use lib.ListN.{length, drop, getD, drop-of-length-le}
 use lib.Seq.{drop-cons}
 use Rattle.streamname.specs.Letters.{toB64}
-use Rattle.streamname.specs.Names.{encoded, greedy, pair, encodedName}
+use Rattle.streamname.specs.Names.{encoded, greedy, pair, encodedName, allowed}
 use Rattle.streamname.specs.Calls.{encodeOutcome}
-use Rattle.streamname.specs.inner.Packing.{Front, Count}
+use Rattle.streamname.specs.inner.Packing.{Front, Tallied}
+use Rattle.streamname.specs.declared.encoding.Tally.{Tally}
+use Rattle.streamname.proofs.AllowedLaws.{letter-allowed, every-next, and-assoc, and-true}
 use Rattle.streamname.specs.declared.encoding.Packed.{Packed}
-use Rattle.common.specs.Lists.{_over_}
+use Rattle.common.specs.Choice.{_<?_}
+use Rattle.common.specs.Lists.{_over_, every}
 use Rattle.common.specs.Sizes.{maxName}
 use Rattle.common.specs.Answers.{gives, refused, nowhere}
 use borrow.Author.Tests.{lt-ltb, le-ltb}
@@ -48,6 +51,7 @@ module _ (name : List ℕ) (at : ℕ) (here : at < length name) where
   front-passes e =
       record {
         packs = rw (add-one, drop-cons name at 0 here, passes _ _ e);
+        judged = every-next name at here;
         within = omega arith;
         moves = omega arith;
       }
@@ -57,6 +61,7 @@ module _ (name : List ℕ) (at : ℕ) (here : at < length name) where
     front-last end =
         record {
           packs = rw (add-one, drop-cons name at 0 here, drop-of-length-le name {i = suc at} (omega arith), lone-last _ a e);
+          judged = every-next name at here;
           within = omega arith;
           moves = omega arith;
         }
@@ -72,6 +77,7 @@ module _ (name : List ℕ) (at : ℕ) (here : at < length name) where
       front-lone f =
           record {
             packs = rw (two, next, lone _ a _ _ e f);
+            judged = every-next name at here;
             within = omega arith;
             moves = omega arith;
           }
@@ -80,23 +86,45 @@ module _ (name : List ℕ) (at : ℕ) (here : at < length name) where
       front-pair b f =
           record {
             packs = rw (two, paired _ a _ b _ e f);
+            judged = rw (two, letter-allowed _ a e, letter-allowed _ b f);
             within = omega arith;
             moves = omega arith;
           }
 
--- what is counted, one packed unit further
-pub count-on : (name : List ℕ) (units at : ℕ) (p : Packed) → Count name units at → Front name at p → Count name (units + 1) (at + p .used)
-count-on name units at p c f =
-    record {
-      fewer = omega (arith, c .fewer, f .moves);
-      within = f .within;
-      counted = omega (arith, c .counted, ap length (f .packs));
-    }
+-- what is tallied, one packed unit further: a pair leaves what is allowed as it is, any other unit is asked
+module _ (name : List ℕ) (m : Tally) (p : Packed) (so-far : Tallied name m) (f : Front name (m .at) p) where
+  counted-on : (m .units + 1) + length (encoded (drop (m .at + p .used) name)) ≡ length (encoded name)
+  counted-on = omega (arith, so-far .counted, ap length (f .packs))
+
+  judged-on : (t : Bool) → (1 <? p .used || allowed (getD name (m .at) 0)) ≡ t → (m .allowed && t && every allowed (drop (m .at + p .used) name)) ≡ every allowed name
+  judged-on t e = and-assoc (m .allowed) t _ ∙ ap (λ rest. m .allowed && rest) (ap (λ b. b && every allowed (drop (m .at + p .used) name)) (sym e) ∙ sym (f .judged)) ∙ so-far .judged
+
+  pub tally-pair : 1 < p .used → Tallied name (record { units = m .units + 1; allowed = m .allowed; at = m .at + p .used })
+  tally-pair h =
+      record {
+        fewer = omega (arith, so-far .fewer, f .moves);
+        within = f .within;
+        counted = counted-on;
+        judged = ap (λ b. b && every allowed (drop (m .at + p .used) name)) (and-true (m .allowed)) ∙ judged-on true (rw (lt-ltb 1 (p .used) h));
+      }
+
+  pub tally-one : p .used ≤ 1 → Tallied name (record { units = m .units + 1; allowed = m .allowed && allowed (getD name (m .at) 0); at = m .at + p .used })
+  tally-one h =
+      record {
+        fewer = omega (arith, so-far .fewer, f .moves);
+        within = f .within;
+        counted = counted-on;
+        judged = judged-on (allowed (getD name (m .at) 0)) (rw (le-ltb 1 (p .used) h));
+      }
 
 -- past the end nothing is left
 pub encoded-end : (name : List ℕ) (i : ℕ) → length name ≤ i → encoded (drop i name) ≡ []
 unfolding encoded
 encoded-end name i h = rw (drop-of-length-le name h)
+
+-- and all is tallied
+pub tallied-all : (name : List ℕ) (m : Tally) → Tallied name m → length name ≤ m .at → (m .units ≡ length (encoded name)) × (m .allowed ≡ every allowed name)
+tallied-all name m t h = (omega (arith, t .counted, ap length (encoded-end name (m .at) h)), and-true (m .allowed) ∙ (rw (drop-of-length-le name h) at (t .judged)))
 
 -- a packed name is no longer than the name
 greedy-short : (p : Option ℕ) (x y : List ℕ) (n : ℕ) → length x < n → length y ≤ n → length (greedy p x y) ≤ n

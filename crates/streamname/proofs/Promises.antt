@@ -1,19 +1,24 @@
 -- The promises of specs/Promises.antt about sizes and calls; RoundTrip.antt has the round trip.
-use Prim.Native.Nat.{ℕ, _≤_}
+use Prim.Native.Nat.{ℕ, _≤_, _<_}
 use mathlib.Core.Path.{_≡_, refl, sym, ap, _∙_}
-use mathlib.Core.Bool.{Bool, _||_}
+use mathlib.Core.Bool.{Bool, true, false, not, _&&_, _||_, true≢false}
+use mathlib.Core.Logic.{_≢_}
 use mathlib.Core.List.{List}
 use native.Mathlib.Omega.{arith}
-use lib.ListN.{length, take}
+use lib.ListN.{length, take, getD}
 use lib.Seq.{take-at}
 use Rattle.common.specs.Sizes.{maxName, maxStored}
 use Rattle.common.specs.Lists.{_over_}
-use Rattle.common.specs.Choice.{_<?_}
+use Rattle.common.specs.Choice.{_<?_, _≤?_, _=?_}
 use Rattle.common.specs.Answers.{gives, nowhere}
 use Rattle.common.proofs.Outcomes.{past, outcome-gives, wrote as fitted}
-use Rattle.streamname.specs.Names.{encodedName, decodedName, isTable}
+use Rattle.common.specs.Lists.{every}
+use borrow.Author.Tests.{ltb-false, eqb-false}
+use Rattle.streamname.specs.Names.{encodedName, decodedName, isTable, allowed, valid}
+use Rattle.streamname.proofs.AllowedLaws.{every-clear, and-parts}
+use Rattle.common.proofs.Outcomes.{not-true, true-not}
 use Rattle.streamname.specs.Calls.{encodeOutcome, decodeAnswer, decodeOutcome}
-use Rattle.streamname.specs.Promises.{Returns, StoredSize, written, CallsReturn}
+use Rattle.streamname.specs.Promises.{Returns, StoredSize, written, CallsReturn, ValidReturns}
 use Rattle.streamname.proofs.EncodeLaws.{stored-short, encode-done}
 use Rattle.streamname.proofs.DecodeLaws.{decode-done}
 use Rattle.streamname.proofs.RoundTrip.{round-trip}
@@ -61,3 +66,23 @@ module _ (name : List ℕ) (table : Bool) (out back : List ℕ)
 pub calls-return : CallsReturn
 unfolding S
 calls-return name table out back h room space = rw (wrote name table out h room) (there name table out back h room space, again name table out back h room space)
+
+-- a valid name has no coded unit, and keeps its flag
+plain : (name : List ℕ) (t : Bool) → t ≡ false → (t || not (isTable name)) ≡ true → getD name 0 0 ≢ 0x4840
+plain name true p f = absurd (true≢false p)
+plain name false p f = eqb-false _ _ (true-not _ f)
+
+keeps : (name : List ℕ) (table : Bool) → valid name table ≡ true → Returns name table
+keeps name table e =
+    let some = not (length name =? 0) in
+    let flag = table || not (isTable name) in
+    let short = length (encodedName name table) ≤? 31 in
+    let f = and-parts (some && flag && short) (every allowed name) e in
+    let g = and-parts some flag (and-parts (some && flag) short (f .0) .0) .1 in
+    (every-clear name (f .1), λ p. plain name table p g)
+
+pub valid-returns : ValidReturns
+valid-returns name table out back e room space =
+    let p = past (maxName <? length name) 22 nowhere e in
+    let v : valid name table ≡ true = cc in
+    calls-return name table out back (ltb-false maxName (length name) (p .0)) room space .1 (keeps name table v)

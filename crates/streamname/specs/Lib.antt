@@ -2,4 +2,5 @@ pub mod Letters
 pub mod Names
 pub mod Calls
 pub mod Promises
+pub mod Points
 pub mod inner

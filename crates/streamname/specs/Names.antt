@@ -5,7 +5,7 @@ use mathlib.Core.List.{List, [], _∷_, map}
 use mathlib.Core.Option.{Option, none, some}
 use lib.ListN.{length, drop, getD}
 use Rattle.common.specs.Choice.{if_then_else_, _≤?_, _=?_}
-use Rattle.common.specs.Lists.{joined}
+use Rattle.common.specs.Lists.{joined, every}
 use Rattle.streamname.specs.Letters.{toB64, fromB64}
 
 -- "Two such units a, b become 0x3800 + 64b + a"
@@ -60,6 +60,11 @@ decoded stored = joined (map undone stored)
 abbrev pub decodedName : List ℕ → List ℕ
 decodedName stored = decoded (stripped stored)
 
--- "Valid: not empty, no leading 0x4840 if plain, at most 31 encoded units."
+-- document 02, E1: a name has none of `!`, `/`, `:` and `\`, which [MS-CFB] forbids, and no unit from 0x3800 to 0x483F, which would be
+-- shown as other letters
+abbrev pub allowed : ℕ → Bool
+allowed u = not (u =? 0x21 || u =? 0x2F || u =? 0x3A || u =? 0x5C || between 0x3800 0x483F u)
+
+-- "Valid: not empty, no leading 0x4840 if plain, at most 31 encoded units", and every unit allowed
 abbrev pub valid : List ℕ → Bool → Bool
-valid name table = not (length name =? 0) && (table || not (isTable name)) && length (encodedName name table) ≤? 31
+valid name table = not (length name =? 0) && (table || not (isTable name)) && length (encodedName name table) ≤? 31 && every allowed name

@@ -2,14 +2,14 @@
 use Prim.Native.Nat.{ℕ, _+_, _≤_, _<_}
 use mathlib.Core.Path.{_≡_}
 use mathlib.Core.Logic.{_↔_, _≢_}
-use mathlib.Core.Bool.{Bool, false}
+use mathlib.Core.Bool.{Bool, true, false}
 use mathlib.Core.List.{List, []}
 use lib.ListN.{length, take, getD}
 use Rattle.common.specs.Sizes.{maxName, maxStored}
 use Rattle.common.specs.Lists.{_over_}
 use Rattle.common.specs.Answers.{Answer, gives, refused}
 use Rattle.streamname.specs.Names.{encodedName, decodedName, isTable}
-use Rattle.streamname.specs.Calls.{encodeOutcome, decodeOutcome}
+use Rattle.streamname.specs.Calls.{encodeOutcome, decodeOutcome, validAnswer}
 
 -- "no unit lies in 0x3800-0x483F and a plain name does not begin with 0x4840"
 abbrev pub Coded : ℕ → Type 0
@@ -37,3 +37,8 @@ written (refused n at, out) = []
 abbrev pub CallsReturn : Type 0
 CallsReturn = (name : List ℕ) (table : Bool) (out back : List ℕ) → length name ≤ maxName → length (encodedName name table) ≤ length out → length name ≤ length back
     → (decodeOutcome (written (encodeOutcome name table out)) back ≡ (gives (length name, table), name over back)) ↔ Returns name table
+
+-- document 02, E1: "every valid name decodes from its stored form to itself with its flag"
+abbrev pub ValidReturns : Type 0
+ValidReturns = (name : List ℕ) (table : Bool) (out back : List ℕ) → validAnswer name table ≡ gives true → length (encodedName name table) ≤ length out → length name ≤ length back
+    → decodeOutcome (written (encodeOutcome name table out)) back ≡ (gives (length name, table), name over back)

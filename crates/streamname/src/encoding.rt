@@ -5,8 +5,9 @@ use crate::letters::to_b64;
 ghost use mathlib.Core.Path.{_≡_};
 ghost use Prim.Native.Nat.{_≤_, _<_};
 ghost use lib.ListN.{length};
-ghost use Rattle.streamname.specs.Names.{encoded, encodedName};
-ghost use Rattle.streamname.specs.inner.Packing.{letterNumbers, Front, Count, Put, Bound};
+ghost use Rattle.streamname.specs.Names.{encoded, encodedName, allowed};
+ghost use Rattle.streamname.specs.inner.Packing.{letterNumbers, Front, Tallied, Put, Bound};
+ghost use Rattle.common.specs.Lists.{every};
 
 // A packed unit, and how many units of the name it takes.
 pub(crate) struct Packed {
@@ -40,59 +41,102 @@ pub(crate) fn pack(name: &[u16], at: usize, numbers: &[u8; 128]) -> Packed
     }
 }
 
-// So many packed units stand for the name up to `at`.
-pub(crate) struct Counted {
+// Whether the container takes a unit of a name, and its stored form gives it back.
+fn is_allowed(unit: u16) -> bool
+    ensures { λ r. ⌜ r ≡ allowed unit ⌝ }
+{
+    if unit == 0x21 {
+        return false;
+    }
+    if unit == 0x2F {
+        return false;
+    }
+    if unit == 0x3A {
+        return false;
+    }
+    if unit == 0x5C {
+        return false;
+    }
+    if unit < 0x3800 {
+        return true;
+    }
+    if unit < 0x4840 {
+        return false;
+    }
+    true
+}
+
+// The name up to `at`: how many packed units stand for it, and whether all its own are allowed.
+pub(crate) struct Tally {
     pub units: usize,
+    pub allowed: bool,
     pub at: usize,
 }
 
-// Counts on while letters come in pairs, and one unit further. A pair stays in the loop and anything else leaves it, so that the
-// processor can predict where the next unit stands; a step of one or two would make it wait for the table.
-fn count_run(name: &[u16], from: Counted, numbers: &[u8; 128]) -> Counted
-    requires { ⌜ (from .at < length (now name)) × Count (now name) (from .units) (from .at) × (now numbers ≡ letterNumbers) ⌝ }
-    ensures { λ r. ⌜ (from .at < r .at) × Count (now (name .entry)) (r .units) (r .at) ⌝ }
+// Goes on while letters come in pairs, and one unit further. Letters are allowed, so only what stands alone is asked. A pair stays in the
+// loop and anything else leaves it, so that the processor can predict where the next unit stands; a step of one or two would make it wait
+// for the table.
+fn tally_run(name: &[u16], from: Tally, numbers: &[u8; 128]) -> Tally
+    requires { ⌜ (from .at < length (now name)) × Tallied (now name) from × (now numbers ≡ letterNumbers) ⌝ }
+    ensures { λ r. ⌜ (from .at < r .at) × Tallied (now (name .entry)) r ⌝ }
 {
     let mut units = from.units;
     let mut at = from.at;
+    let allowed = from.allowed;
     while at < name.len() {
         let packed = pack(name, at, numbers);
         units += 1;
-        at += packed.used;
         if packed.used < 2 {
-            return Counted { units, at };
+            return Tally {
+                units,
+                allowed: allowed & is_allowed(name[at]),
+                at: at + packed.used,
+            };
         }
+        at += packed.used;
     }
-    Counted { units, at }
+    Tally { units, allowed, at }
 }
 
-// How many units the packed name has.
-pub(crate) fn encoded_len(name: &[u16]) -> usize
-    ensures { λ r. ⌜ r ≡ length (encoded (now (name .entry))) ⌝ }
+// How many units the packed name has, and whether all units of the name are allowed.
+fn tally_units(name: &[u16]) -> Tally
+    ensures { λ r. ⌜ (r .units ≡ length (encoded (now (name .entry)))) × (r .allowed ≡ every allowed (now (name .entry))) ⌝ }
 {
     let numbers = numbers();
-    let mut counted = Counted { units: 0, at: 0 };
-    while counted.at < name.len() {
-        counted = count_run(name, counted, &numbers);
+    let mut all = Tally {
+        units: 0,
+        allowed: true,
+        at: 0,
+    };
+    while all.at < name.len() {
+        all = tally_run(name, all, &numbers);
     }
-    counted.units
+    all
 }
 
-// How many units `encode` writes.
-pub(crate) fn encoded_units(name: &[u16], is_table: bool) -> usize
-    ensures { λ r. ⌜ r ≡ length (encodedName (now (name .entry)) «is_table») ⌝ }
+// The same of what `encode` writes: the prefix counts.
+pub(crate) fn tally_stored(name: &[u16], is_table: bool) -> Tally
+    ensures { λ r. ⌜ (r .units ≡ length (encodedName (now (name .entry)) «is_table»)) × (r .allowed ≡ every allowed (now (name .entry))) ⌝ }
 {
-    let units = encoded_len(name);
-    if is_table { units + 1 } else { units }
+    let all = tally_units(name);
+    if is_table {
+        return Tally {
+            units: all.units + 1,
+            allowed: all.allowed,
+            at: all.at,
+        };
+    }
+    all
 }
 
-// The same, but no unit is looked at where a place for each and for the prefix is there anyhow.
+// How many units `encode` writes, or more, but no unit is looked at where a place for each and for the prefix is there anyhow.
 pub(crate) fn encoded_bound(name: &[u16], is_table: bool, places: usize) -> usize
     ensures { λ r. ⌜ Bound (length (encodedName (now (name .entry)) «is_table»)) places r ⌝ }
 {
     if name.len() < places {
         return name.len() + 1;
     }
-    encoded_units(name, is_table)
+    tally_stored(name, is_table).units
 }
 
 // Writes the packed name to the front of `out`, which has room for it, and answers how many units that are.

@@ -9,7 +9,7 @@ use crate::decoding::is_table_name;
 use crate::decoding::strip;
 use crate::decoding::write_decoded;
 use crate::encoding::encoded_bound;
-use crate::encoding::encoded_units;
+use crate::encoding::tally_stored;
 use crate::encoding::write_encoded;
 use common::Refusal;
 use common::sizes::MAX_NAME;
@@ -104,7 +104,11 @@ pub fn is_valid(name: &[u16], is_table: bool) -> Validity
     if !keeps_flag(name, is_table) {
         return Validity::Invalid;
     }
-    if MAX_STREAM < encoded_units(name, is_table) {
+    let stored = tally_stored(name, is_table);
+    if MAX_STREAM < stored.units {
+        return Validity::Invalid;
+    }
+    if !stored.allowed {
         return Validity::Invalid;
     }
     Validity::Valid

@@ -15,10 +15,13 @@ returns-3 : tie.Need-returns-3
 returns-3 c = simp (le-ltb _ _ (c .before .before .before .if1 .left), ne-eqb _ _ (c .before .before .if2 .left), sym (c .before .keeps-flag .ensures) ∙ true-not _ (c .if3 .taken))
 
 returns-4 : tie.Need-returns-4
-returns-4 c = simp (le-ltb _ _ (c .before .before .before .before .before .if1 .left), ne-eqb _ _ (c .before .before .before .before .if2 .left), sym (c .before .before .before .keeps-flag .ensures) ∙ not-true _ (c .before .before .if3 .left), lt-leb _ _ (rw (c .before .encoded-units .ensures) at (c .if4 .taken)))
+returns-4 c = simp (le-ltb _ _ (c .before .before .before .before .before .before .if1 .left), ne-eqb _ _ (c .before .before .before .before .before .if2 .left), sym (c .before .before .before .before .keeps-flag .ensures) ∙ not-true _ (c .before .before .before .if3 .left), lt-leb _ _ (rw (c .before .before .tally-stored .ensures .0) at (c .if4 .taken)))
 
 returns-5 : tie.Need-returns-5
-returns-5 c = simp (le-ltb _ _ (c .before .before .before .before .before .if1 .left), ne-eqb _ _ (c .before .before .before .before .if2 .left), sym (c .before .before .before .keeps-flag .ensures) ∙ not-true _ (c .before .before .if3 .left), le-leb _ _ (rw (c .before .encoded-units .ensures) at (c .if4 .left)))
+returns-5 c = simp (le-ltb _ _ (c .before .before .before .before .before .before .before .before .if1 .left), ne-eqb _ _ (c .before .before .before .before .before .before .before .if2 .left), sym (c .before .before .before .before .before .before .keeps-flag .ensures) ∙ not-true _ (c .before .before .before .before .before .if3 .left), le-leb _ _ (rw (c .before .before .before .before .tally-stored .ensures .0) at (c .before .before .if4 .left)), sym (c .before .before .before .before .tally-stored .ensures .1) ∙ true-not _ (c .if5 .taken))
+
+returns-6 : tie.Need-returns-6
+returns-6 c = simp (le-ltb _ _ (c .before .before .before .before .before .before .before .before .if1 .left), ne-eqb _ _ (c .before .before .before .before .before .before .before .if2 .left), sym (c .before .before .before .before .before .before .keeps-flag .ensures) ∙ not-true _ (c .before .before .before .before .before .if3 .left), le-leb _ _ (rw (c .before .before .before .before .tally-stored .ensures .0) at (c .before .before .if4 .left)), sym (c .before .before .before .before .tally-stored .ensures .1) ∙ not-true _ (c .if5 .left))
 
 pub is-valid-spec : {M : Type 1} → statement M
 is-valid-spec =
@@ -30,4 +33,5 @@ is-valid-spec =
     returns-3
     (λ c κs. search needs)
     returns-4
-    returns-5)
+    returns-5
+    returns-6)

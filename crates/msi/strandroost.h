@@ -150,7 +150,8 @@ struct strandroost_count strandroost_encode(const uint16_t *name, size_t units, 
  * 22: over 65,536 units, or a name over 65,535. 7. */
 struct strandroost_name strandroost_decode(const uint16_t *stored, size_t units, uint16_t *out, size_t places);
 
-/* Whether a name may be stored. 22: over 65,535 units. */
+/* Whether a name may be stored: not empty, not with the prefix in front if plain, at most 31 units when stored, and with none of
+ * '/', '\\', ':', '!' and no unit from 0x3800 to 0x483F. 22: over 65,535 units. */
 struct strandroost_flag strandroost_is_valid(const uint16_t *name, size_t units, bool is_table);
 
 /* ---- The string pool. Every call that is handed a state with its rooms judges first 22, a text room over 268,435,455 bytes, then

@@ -35,13 +35,19 @@ pub fn decode(stored: &str) -> Result<(String, bool)> {
     Ok((String::from_utf16_lossy(&name), is_table))
 }
 
-/// Whether a name works as a stream's once it is encoded. Refused with 22 where the name has more than 65,535 units.
+/// Whether a name works as a stream's once it is encoded: it is not empty, has at most 31 units when it is stored, none of `/`, `\`,
+/// `:` and `!`, which a container does not take, and no unit from 0x3800 to 0x483F, which would be shown as other letters; a plain name
+/// does not begin with 0x4840. Such a name is decoded from its stored form as itself, with its flag. Refused with 22 where the name has
+/// more than 65,535 units.
 ///
 /// ```
-/// use strandroost::streamname::is_valid;
+/// use strandroost::streamname::{encode, is_valid};
 ///
 /// assert_eq!(is_valid(&"a".repeat(60), true), Ok(true));
 /// assert_eq!(is_valid(&"a".repeat(61), true), Ok(false));
+/// assert_eq!(is_valid("fonts/latin", false), Ok(false));
+/// // It is a check, and no call makes it: a stream that is named so already is still found by its stored form.
+/// assert!(encode("fonts/latin", false).is_ok());
 /// ```
 pub fn is_valid(name: &str, is_table: bool) -> Result<bool> {
     is_valid_units(&units(name), is_table)

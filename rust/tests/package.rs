@@ -147,6 +147,29 @@ fn names_go_by_str_and_by_units() {
 }
 
 #[test]
+fn a_valid_name_comes_back_and_the_container_takes_it() {
+    let names = [
+        ("fonts/latin", false),
+        ("fonts\\latin", false),
+        ("fonts:latin", false),
+        ("fonts!", false),
+        ("\u{3800}", false),
+        ("a\u{483f}", false),
+        ("fonts.latin", true),
+        ("\u{37ff}", true),
+        ("a\u{4840}", true),
+        ("\u{4841}", true),
+    ];
+    for (name, valid) in names {
+        for is_table in [false, true] {
+            assert_eq!(streamname::is_valid(name, is_table), Ok(valid), "{name}");
+            let back = streamname::decode(&streamname::encode(name, is_table).unwrap()).unwrap();
+            assert!(!valid || back == (name.to_string(), is_table), "{name}");
+        }
+    }
+}
+
+#[test]
 fn values_are_made_from_what_a_caller_has() {
     let numbers = [Value::from(true), Value::from(-7i16), Value::from(40_000u16), Value::from(-40_000)];
     assert_eq!(numbers.map(|number| number.as_int()), [Some(1), Some(-7), Some(40_000), Some(-40_000)]);

@@ -307,8 +307,8 @@ struct strandroost_count strandroost_read_rows(struct strandroost_table table, c
 
 /* The table stream of cells handed over row by row: how many bytes were written, rows times the row size; 4 * kinds_len places
  * suffice. 20, 19 or 16, 14. 23: kinds or numbers not rows * count. Then the cells, column by column, each at its place: 16, a
- * kind that is unknown or does not suit the column; 17, an Int outside its width; 8, no reference; 18, one above 65,535 in a
- * short table. 7. */
+ * kind that is unknown or does not suit the column; 17, an Int outside its width, or the smallest of it, whose cell would read
+ * as Null; 8, no reference; 18, one above 65,535 in a short table. 7. */
 struct strandroost_count strandroost_write_rows(struct strandroost_table table, size_t rows, const uint8_t *kinds,
                                                 size_t kinds_len, const int32_t *numbers, size_t numbers_len, uint8_t *out,
                                                 size_t places);

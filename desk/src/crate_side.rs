@@ -7,7 +7,7 @@ use crate::internal::streamname;
 use crate::internal::stringpool::{StringPool, StringPoolBuilder, StringRef};
 use crate::internal::table::{Rows, Table};
 use crate::internal::value::{Value as CrateValue, ValueRef};
-use crate::language::{Answer, Cell, Command, Layout, Made, Place, Spec, Type, Value, MAX_NAME};
+use crate::language::{Answer, Cell, Command, Layout, Made, Place, Spec, Type, Value, MAX_COLUMNS, MAX_NAME, MAX_ROWS};
 use crate::requests;
 use std::io::{self, Cursor, Read};
 use std::panic::{catch_unwind, AssertUnwindSafe};
@@ -16,8 +16,6 @@ use std::rc::Rc;
 const MAX_BYTES: usize = 268_435_455;
 const MAX_ENTRIES: u32 = 16_777_215;
 const MAX_STORED: usize = 65_536;
-const MAX_COLUMNS: usize = 64;
-const MAX_ROWS: usize = 65_536;
 
 /// Why there is no plain answer.
 enum Stop {

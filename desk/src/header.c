@@ -267,6 +267,9 @@ static void tables(void)
     numbers[2] = 40000;
     written = strandroost_write_rows(table, 2, kinds, 4, numbers, 4, stream, sizeof stream);
     expect("40,000 in 16 bits: 17 at row 1, column 0", is(written.refused, 17, 2, 1, 0));
+    numbers[2] = -32768;
+    written = strandroost_write_rows(table, 2, kinds, 4, numbers, 4, stream, sizeof stream);
+    expect("-32,768 in 16 bits: 17 at row 1, column 0, and nothing was written", is(written.refused, 17, 2, 1, 0) && !memcmp(stream, expected, 8));
     kinds[1] = 4;
     written = strandroost_write_rows(table, 2, kinds, 4, numbers, 4, stream, sizeof stream);
     expect("column 0 is judged before kind 4 at row 0, column 1", is(written.refused, 17, 2, 1, 0));

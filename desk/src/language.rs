@@ -4,6 +4,12 @@
 /// The most units of a name.
 pub const MAX_NAME: usize = 65_535;
 
+/// The most columns of a layout.
+pub const MAX_COLUMNS: usize = 64;
+
+/// The most rows of a table.
+pub const MAX_ROWS: usize = 65_536;
+
 #[derive(Clone, Copy, Debug, PartialEq)]
 pub enum Cell {
     Null,

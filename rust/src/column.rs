@@ -9,9 +9,9 @@ use std::fmt;
 /// The type of a column.
 #[derive(Clone, Copy, Debug, PartialEq, Eq, Hash)]
 pub enum ColumnType {
-    /// Integers from -32,768 to 32,767, the smallest of which reads as Null.
+    /// Integers from -32,767 to 32,767; -32,768 is refused, since its cell would read as Null.
     Int16,
-    /// Integers of 32 bits, the smallest of which reads as Null.
+    /// Integers of 32 bits but the smallest, -2,147,483,648, which is refused for the same reason.
     Int32,
     /// Texts, with the largest length in bytes, 0 for any.
     Str(u32),

@@ -121,7 +121,8 @@ impl Table {
         Ok(Cells { rows, columns, kinds, numbers })
     }
 
-    /// The stream of rows. Refused with 14, 23, and for a cell with 16, 17, 18.
+    /// The stream of rows. Refused with 14, 23, and for a cell with 16, 17, 18. 17 is for an integer outside its column and for the
+    /// column's smallest, which would read as Null; whatever is written reads back.
     ///
     /// ```
     /// use strandroost::{Column, Place, Table, ValueRef};
@@ -130,6 +131,8 @@ impl Table {
     /// let refusal = table.write_rows(&[vec![ValueRef::Int(1)], vec![ValueRef::Int(40_000)]]).unwrap_err();
     /// assert_eq!((refusal.number(), refusal.place()), (17, Place::Cell { row: 1, column: 0 }));
     /// assert_eq!(refusal.to_string(), "the integer does not fit its column (refusal 17, row 1, column 0)");
+    /// assert_eq!(table.write_rows(&[vec![ValueRef::Int(-32_768)]]).unwrap_err().number(), 17);
+    /// assert_eq!(table.read_rows(&table.write_rows(&[vec![ValueRef::Int(-32_767)]])?)?, [[ValueRef::Int(-32_767)]]);
     /// # Ok::<(), strandroost::Refusal>(())
     /// ```
     pub fn write_rows(&self, rows: &[Vec<ValueRef>]) -> Result<Vec<u8>> {

@@ -1,11 +1,11 @@
 -- A cell within the limits of its form is stored. Assumes nothing.
 use mathlib.Core.Path.{_≡_, refl}
 use mathlib.Core.Bool.{Bool, true, false, not, _&&_, _||_}
-use Prim.Native.Nat.{ℕ, _-_}
+use Prim.Native.Nat.{ℕ, suc, _<_}
 use native.Mathlib.Omega.{arith}
-use borrow.Author.Tests.{ltb-false, le-ltb}
+use borrow.Author.Tests.{ltb-false, le-ltb, lt-leb}
 use lib.Dec.{ltb}
-use lib.IntN.{ℤ, pos, negsuc, negℤ}
+use lib.IntN.{ℤ, pos, negsuc, natAbs}
 use Rattle.common.specs.Choice.{if_then_else_, _=?_, _<ℤ?_}
 use Rattle.common.specs.Answers.{Place, gives, refused, refusalOf}
 use Rattle.column_type.specs.declared.form.CellForm.{CellForm}
@@ -28,11 +28,20 @@ short (pos m) e = go (ltb m 1) (ltb 65535 m) refl refl e
     go false false p q f = (rw (p, le-ltb 16777215 m (omega (arith, ltb-false 65535 m q))), q)
 short (negsuc m) e = absurd (let y : _≡_ {A = ℕ} 0 1 = cc in omega arith)
 
+-- between -(k + 1) and k + 1 a number is less than k + 2 away from 0
+near : (k : ℕ) (n : ℤ) → (n <ℤ? negsuc k || pos (suc k) <ℤ? n) ≡ false → natAbs n < suc (suc k)
+near k (pos m) e = omega (arith, ltb-false (suc k) m e)
+near k (negsuc m) e = go (ltb k m) refl e
+  where
+    go : (b : Bool) → ltb k m ≡ b → (b || false) ≡ false → suc m < suc (suc k)
+    go true p f = absurd (let y : _≡_ {A = ℕ} 0 1 = cc in omega arith)
+    go false p f = omega (arith, ltb-false k m p)
+
 module _ (at : Place) (n : ℤ) where
-  integer-held : (half : ℕ) (a b : Bool) → (a || b && not (n <ℤ? negℤ (pos half) || pos (half - 1) <ℤ? n)) ≡ true → gives tt ≡ refusalOf (if a then gives 0 else if b then integer half at n else refused 16 at)
-  integer-held half true b e = refl
-  integer-held half false true e = rw (inside (n <ℤ? negℤ (pos half) || pos (half - 1) <ℤ? n) e)
-  integer-held half false false e = absurd (let y : _≡_ {A = ℕ} 0 1 = cc in omega arith)
+  integer-held : (k : ℕ) (a b : Bool) → (a || b && not (n <ℤ? negsuc k || pos (suc k) <ℤ? n)) ≡ true → gives tt ≡ refusalOf (if a then gives 0 else if b then integer (suc (suc k)) at n else refused 16 at)
+  integer-held k true b e = refl
+  integer-held k false true e = rw (lt-leb (suc (suc k)) (natAbs n) (near k n (inside (n <ℤ? negsuc k || pos (suc k) <ℤ? n) e)))
+  integer-held k false false e = absurd (let y : _≡_ {A = ℕ} 0 1 = cc in omega arith)
 
   long-held : (a b : Bool) → (a || b && not (n <ℤ? pos 1 || pos 16777215 <ℤ? n)) ≡ true → gives tt ≡ refusalOf (if a then gives 0 else if b then referenceNumber true at n else refused 16 at)
   long-held true b e = refl
@@ -51,8 +60,8 @@ module _ (at : Place) (n : ℤ) where
   binary-held false e = absurd (let y : _≡_ {A = ℕ} 0 1 = cc in omega arith)
 
   pub held : (f : CellForm) (k : ℕ) → inLimits (limitsOf f) k n ≡ true → gives tt ≡ refusalOf (stored (typeIn f) (longIn f) at k n)
-  held Int16 k e = integer-held 32768 (k =? 0) (k =? 1) e
-  held Int32 k e = integer-held 2147483648 (k =? 0) (k =? 1) e
+  held Int16 k e = integer-held 32766 (k =? 0) (k =? 1) e
+  held Int32 k e = integer-held 2147483646 (k =? 0) (k =? 1) e
   held ShortRef k e = short-held (k =? 0) (k =? 2) e
   held LongRef k e = long-held (k =? 0) (k =? 2) e
   held Binary k e = binary-held (k =? 3) e

@@ -63,8 +63,8 @@ fn limits_of(form: CellForm) -> Limits
     ensures { λ r. ⌜ r ≡ limitsOf form ⌝ }
 {
     match form {
-        CellForm::Int16 => between(1, -32_768, 32_767, 0),
-        CellForm::Int32 => between(1, -2_147_483_648, 2_147_483_647, 0),
+        CellForm::Int16 => between(1, -32_767, 32_767, 0),
+        CellForm::Int32 => between(1, -2_147_483_647, 2_147_483_647, 0),
         CellForm::ShortRef => between(2, 1, 65_535, 0),
         CellForm::LongRef => between(2, 1, 16_777_215, 0),
         CellForm::Binary => between(3, 0, 0, 3),

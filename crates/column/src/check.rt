@@ -81,7 +81,7 @@ fn in_range(n: i32, range: ValueRange) -> bool
     true
 }
 
-// Above the smallest integer of the width, which is stored as Null is, and at most the largest.
+// Above the smallest integer of the width, which no cell takes, and at most the largest.
 fn int_fits(coltype: ColumnType, n: i32) -> bool
     ensures { λ r. ⌜ r ≡ integerFits coltype n ⌝ }
 {

@@ -7,9 +7,9 @@ use native.Mathlib.Omega.{arith}
 use native.Mathlib.Nat.{sub-zero, add-zero}
 use mathlib.Core.Logic.{⊎-elim, _⊎_, inl, inr}
 use lib.Dec.{ltb}
-use lib.IntN.{ℤ, pos, negsuc, negℤ, subℕ, _+ℤ_, _-ℤ_}
+use lib.IntN.{ℤ, pos, negsuc, negℤ, natAbs, subℕ, _+ℤ_, _-ℤ_}
 use lib.Signed.{mag, ltZ}
-use borrow.Author.Tests.{lt-ltb, le-ltb, ltb-true, ltb-false}
+use borrow.Author.Tests.{lt-ltb, le-ltb, ltb-true, ltb-false, le-leb, lt-leb}
 use mir.Syntax.{w32, w64}
 use mir.Val.{SFits, toZ, ofZ}
 use mir.Facts.{toZ-ofZ, toZ-pos, sfits-widen}
@@ -69,6 +69,10 @@ pub mag-unbiased : (u h : ℕ) → u < h + h → mag (unbiased h u) < h
 mag-unbiased u h m =
     ⊎-elim (λ l. rw (sub-neg u h l) (omega arith)) (λ l. rw (sub-pos u h l) (omega arith)) (lt-or-le u h)
 
+pub near-unbiased : (u h : ℕ) → 0 < u → u < h + h → natAbs (unbiased h u) < h
+near-unbiased u h p m =
+    ⊎-elim (λ l. rw (sub-neg u h l) (omega arith)) (λ l. rw (sub-pos u h l) (omega arith)) (lt-or-le u h)
+
 -- the difference `u as i64 - h as i64` of the code
 module _ (u h : ℕ) (small : h ≤ 2 ^ 31) (m : u < h + h) where
   difference : toZ w64 u -ℤ toZ w64 h ≡ unbiased h u
@@ -83,24 +87,18 @@ module _ (u h : ℕ) (small : h ≤ 2 ^ 31) (m : u < h + h) where
   pub unbiased-fits : SFits w32 (unbiased h u)
   unbiased-fits = record { sfits = omega (arith, mag-unbiased u h m) }
 
--- ---- "-half to half - 1" is a magnitude below half
+-- ---- a distance from 0 below half
 
-pub out-of-range : (h : ℕ) (z : ℤ) → 0 < h → h ≤ mag z → (ltZ z (negℤ (pos h)) || ltZ (pos (h - 1)) z) ≡ true
-out-of-range (suc h) (pos n) p m = rw (lt-ltb (suc h - 1) n (omega arith))
-out-of-range (suc h) (negsuc n) p m = rw (lt-ltb h n (omega arith))
-out-of-range zero z p m = absurd (omega arith)
-
-pub within-range : (h : ℕ) (z : ℤ) → mag z < h → (ltZ z (negℤ (pos h)) || ltZ (pos (h - 1)) z) ≡ false
-within-range (suc h) (pos n) m = rw (le-ltb (suc h - 1) n (omega arith))
-within-range (suc h) (negsuc n) m = rw (le-ltb h n (omega arith))
-within-range zero z m = absurd (omega arith)
+pub near-mag : (h : ℕ) (z : ℤ) → natAbs z < h → mag z < h
+near-mag h (pos n) m = m
+near-mag h (negsuc n) m = omega arith
 
 module _ (half : ℕ) (at : Place) (z : ℤ) where
-  pub integer-refused : 0 < half → half ≤ mag z → integer half at z ≡ refused 17 at
-  integer-refused p m = rw (out-of-range half z p m)
+  pub integer-refused : half ≤ natAbs z → integer half at z ≡ refused 17 at
+  integer-refused m = rw (le-leb half (natAbs z) m)
 
-  pub integer-given : mag z < half → integer half at z ≡ gives (biased half z)
-  integer-given m = rw (within-range half z m, add-biased half z m)
+  pub integer-given : natAbs z < half → integer half at z ≡ gives (biased half z)
+  integer-given m = rw (lt-leb half (natAbs z) m, add-biased half z (near-mag half z m))
 
 -- ---- the tests of the code, on n + 2,147,483,648
 
@@ -110,16 +108,16 @@ bias-is z m e = e ∙ ap (λ (y : ℤ). biased 2147483648 y) (toZ-ofZ {w = w32} 
 pub wrapped-by : {r : ℕ} (half : ℕ) (z : ℤ) → mag z < 2147483648 → r ≡ wrapped half (toZ w32 (ofZ w32 z)) → r ≡ wrapped half z
 wrapped-by half z m e = e ∙ ap (wrapped half) (toZ-ofZ {w = w32} {z = z} (record { sfits = m }))
 
-pub too-low : (half : ℕ) (z : ℤ) → biased 2147483648 z < 2147483648 - half → half ≤ mag z
-too-low half (pos n) h = omega arith
-too-low half (negsuc n) h = omega arith
+pub too-low : (half : ℕ) (z : ℤ) → half ≤ 2147483648 → biased 2147483648 z ≤ 2147483648 - half → half ≤ natAbs z
+too-low half (pos n) s h = omega arith
+too-low half (negsuc n) s h = omega arith
 
-pub too-high : (half : ℕ) (z : ℤ) → 2147483648 + half ≤ biased 2147483648 z → half ≤ mag z
+pub too-high : (half : ℕ) (z : ℤ) → 2147483648 + half ≤ biased 2147483648 z → half ≤ natAbs z
 too-high half (pos n) h = omega arith
 too-high half (negsuc n) h = omega arith
 
-pub in-range : (half : ℕ) (z : ℤ) → mag z < 2147483648 → half ≤ 2147483648 → 2147483648 - half ≤ biased 2147483648 z → biased 2147483648 z < 2147483648 + half
-    → (mag z < half) × (biased 2147483648 z - (2147483648 - half) ≡ biased half z)
+pub in-range : (half : ℕ) (z : ℤ) → mag z < 2147483648 → half ≤ 2147483648 → 2147483648 - half < biased 2147483648 z → biased 2147483648 z < 2147483648 + half
+    → (natAbs z < half) × (biased 2147483648 z - (2147483648 - half) ≡ biased half z)
 in-range half (pos n) m s l h = omega arith
 in-range half (negsuc n) m s l h = omega arith
 
@@ -133,7 +131,7 @@ pub biased-unbiased : (h u : ℕ) → biased h (unbiased h u) ≡ u
 biased-unbiased h u =
     ⊎-elim (λ l. rw (sub-neg u h l) (omega arith)) (λ l. rw (sub-pos u h l) (omega arith)) (lt-or-le u h)
 
--- only the smallest is stored as 0
-pub biased-zero : (h : ℕ) (z : ℤ) → mag z < h → biased h z ≡ 0 → z ≡ negsuc (h - 1)
-biased-zero h (pos n) m e = absurd (omega arith)
-biased-zero h (negsuc n) m e = ap negsuc (omega arith)
+-- none is stored as 0
+pub biased-some : (h : ℕ) (z : ℤ) → natAbs z < h → 0 < biased h z
+biased-some h (pos n) m = omega arith
+biased-some h (negsuc n) m = omega arith

@@ -3,3 +3,4 @@ pub mod Cases
 pub mod Forms
 pub mod Halves
 pub mod Numbers
+pub mod Points

@@ -4,8 +4,8 @@ use mathlib.Core.Bool.{Bool, true, false, not, _||_, _&&_}
 use Prim.Native.Nat.{ℕ, suc, zero, _+_, _-_, _%_, _<_, _≤_}
 use native.Mathlib.Nat.{mod-eq-of-lt, add-mod-right}
 use native.Mathlib.Omega.{arith}
-use borrow.Author.Tests.{ltb-false, eqb-true}
-use lib.Dec.{eqb, ltb}
+use borrow.Author.Tests.{ltb-false, eqb-true, leb-false}
+use lib.Dec.{eqb, ltb, leb}
 use lib.IntN.{ℤ, pos, negsuc, negℤ, natAbs, _+ℤ_}
 use lib.Signed.{ltZ, mag}
 use Rattle.common.specs.Choice.{if_then_else_}
@@ -21,7 +21,7 @@ use Rattle.column_type.specs.Cells.{stored, integer, referenceNumber}
 use Rattle.column_type.specs.Signed.{biased, wrapped}
 use Rattle.column_type.specs.Forms.{typeIn, longIn, plainInteger, plainReference, plainNumber}
 use Rattle.column_type.specs.inner.Forms.{integerStored, referenceStored, binaryStored}
-use Rattle.column_type.proofs.Halves.{add-biased}
+use Rattle.column_type.proofs.Halves.{add-biased, near-mag}
 use Rattle.column_type.proofs.Forms.{integer-by-kind, reference-by-kind, binary-by-kind}
 
 -- ---- what was handed over, by kind and number
@@ -59,26 +59,17 @@ module _ (long : Bool) (at : Place) where
       go false false false true p q r s = rw (eqb-true k 3 s) (binary-any t (pos 0) n)
       go false false false false p q r s = unknown-kind t 4 (pos 0) refl refl refl refl ∙ sym (unknown-kind t k n p q r s)
 
--- ---- a number within the range
+-- ---- an integer that was stored
 
-range-mag : (half : ℕ) (z : ℤ) → (ltZ z (negℤ (pos half)) || ltZ (pos (half - 1)) z) ≡ false → 0 < half → mag z < half
-range-mag (suc h) (pos n) e p = omega (arith, ltb-false (suc h - 1) n e)
-range-mag (suc h) (negsuc n) e p = go (ltb h n) refl e
+pub integer-number : (half : ℕ) (at : Place) (z : ℤ) (m : ℕ) → integer half at z ≡ gives m → (natAbs z < half) × (biased half z ≡ m)
+integer-number half at z m e = go (leb half (natAbs z)) refl e
   where
-    go : (b : Bool) → ltb h n ≡ b → (b || false) ≡ false → n < suc h
-    go true q r = absurd (let y : _≡_ {A = ℕ} 0 1 = cc in omega arith)
-    go false q r = omega (arith, ltb-false h n q)
-range-mag zero z e p = absurd (omega arith)
-
-pub integer-number : (half : ℕ) (at : Place) (z : ℤ) (m : ℕ) → 0 < half → integer half at z ≡ gives m → (mag z < half) × (biased half z ≡ m)
-integer-number half at z m p e = go (ltZ z (negℤ (pos half)) || ltZ (pos (half - 1)) z) refl e
-  where
-    go : (b : Bool) → (ltZ z (negℤ (pos half)) || ltZ (pos (half - 1)) z) ≡ b → (if b then refused 17 at else gives (natAbs (z +ℤ pos half))) ≡ gives m → (mag z < half) × (biased half z ≡ m)
+    go : (b : Bool) → leb half (natAbs z) ≡ b → (if b then refused 17 at else gives (natAbs (z +ℤ pos half))) ≡ gives m → (natAbs z < half) × (biased half z ≡ m)
     go true q r = absurd (let y : _≡_ {A = ℕ} 0 1 = cc in omega arith)
     go false q r =
-        let g = range-mag half z q p in
+        let g = leb-false half (natAbs z) q in
         let is : natAbs (z +ℤ pos half) ≡ m = cc in
-        (g, sym (ap natAbs (add-biased half z g)) ∙ is)
+        (g, sym (ap natAbs (add-biased half z (near-mag half z g))) ∙ is)
 
 -- what a stored reference says of its number
 pub record Referred (long : Bool) (z : ℤ) (m : ℕ) : Type 0 where
@@ -117,12 +108,12 @@ wrapped-is : (half : ℕ) (z : ℤ) → half ≤ 2147483648 → mag z < half →
 wrapped-is half (pos n) h m = kept (n + half) _ (omega arith) (omega arith)
 wrapped-is half (negsuc n) h m = kept (half - suc n) _ (omega arith) (omega arith)
 
-int-plain : (half : ℕ) (at : Place) (v : Cell) (m : ℕ) → 0 < half → half ≤ 2147483648 → integerStored half at v ≡ gives m → plainInteger half v ≡ m
-int-plain half at cell.Null m p h e = cc
-int-plain half at (cell.Int z) m p h e = let f = integer-number half at z m p e in wrapped-is half z h (f .0) ∙ f .1
-int-plain half at (cell.Str z) m p h e = absurd (let y : _≡_ {A = ℕ} 0 1 = cc in omega arith)
-int-plain half at cell.Binary m p h e = absurd (let y : _≡_ {A = ℕ} 0 1 = cc in omega arith)
-int-plain half at cell.Unknown m p h e = absurd (let y : _≡_ {A = ℕ} 0 1 = cc in omega arith)
+int-plain : (half : ℕ) (at : Place) (v : Cell) (m : ℕ) → half ≤ 2147483648 → integerStored half at v ≡ gives m → plainInteger half v ≡ m
+int-plain half at cell.Null m h e = cc
+int-plain half at (cell.Int z) m h e = let f = integer-number half at z m e in wrapped-is half z h (near-mag half z (f .0)) ∙ f .1
+int-plain half at (cell.Str z) m h e = absurd (let y : _≡_ {A = ℕ} 0 1 = cc in omega arith)
+int-plain half at cell.Binary m h e = absurd (let y : _≡_ {A = ℕ} 0 1 = cc in omega arith)
+int-plain half at cell.Unknown m h e = absurd (let y : _≡_ {A = ℕ} 0 1 = cc in omega arith)
 
 ref-plain : (long : Bool) (at : Place) (v : Cell) (m : ℕ) → referenceStored long at v ≡ gives m → plainReference v ≡ m
 ref-plain long at cell.Null m e = cc
@@ -146,8 +137,8 @@ fine-number f at k n m e = go f (handed-stored (longIn f) at (typeIn f) k n ∙ 
     v = cellOf k n
 
     go : (g : CellForm) → stored (typeIn g) (longIn g) at (handedKind v) (handedNumber v) ≡ gives m → plainNumber g v ≡ m
-    go form.Int16 q = int-plain 32768 at v m (omega arith) (omega arith) (integer-by-kind 32768 at v ∙ q)
-    go form.Int32 q = int-plain 2147483648 at v m (omega arith) (omega arith) (integer-by-kind 2147483648 at v ∙ q)
+    go form.Int16 q = int-plain 32768 at v m (omega arith) (integer-by-kind 32768 at v ∙ q)
+    go form.Int32 q = int-plain 2147483648 at v m (omega arith) (integer-by-kind 2147483648 at v ∙ q)
     go form.ShortRef q = ref-plain false at v m (reference-by-kind false at v ∙ q)
     go form.LongRef q = ref-plain true at v m (reference-by-kind true at v ∙ q)
     go form.Binary q = bin-plain at v m (binary-by-kind at v ∙ q)

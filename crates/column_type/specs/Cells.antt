@@ -1,8 +1,8 @@
 -- Document 01, "Cells": what a column stores for a cell, and what a stored number reads as, over the column's type and width.
-use Prim.Native.Nat.{ℕ, _-_}
-use mathlib.Core.Bool.{Bool, not, _&&_, _||_}
-use lib.IntN.{ℤ, pos, negℤ, natAbs, _+ℤ_, _-ℤ_}
-use Rattle.common.specs.Choice.{if_then_else_, _=?_, _<ℤ?_}
+use Prim.Native.Nat.{ℕ}
+use mathlib.Core.Bool.{Bool, not, _&&_}
+use lib.IntN.{ℤ, pos, natAbs, _+ℤ_, _-ℤ_}
+use Rattle.common.specs.Choice.{if_then_else_, _≤?_, _=?_, _<ℤ?_}
 use Rattle.common.specs.Answers.{Place, Answer, gives, refused, onGiven}
 use Rattle.string_ref.specs.Refs.{reference}
 use Rattle.column_type.specs.declared.form.ColumnType.{ColumnType}
@@ -15,9 +15,10 @@ width Int32 long = 4
 width (Str max) long = if long then 3 else 2
 width Binary long = 2
 
--- "Int16 holds n + 32,768 in two bytes, Int32 n + 2,147,483,648 in four"; an integer below -half or above half - 1: 17
+-- "Int16 holds n + 32,768 in two bytes, Int32 n + 2,147,483,648 in four"; 17 for an integer that is half the width's numbers or more
+-- away from 0: outside the width, or (document 02, E2) its smallest
 abbrev pub integer : ℕ → Place → ℤ → Answer ℕ
-integer half at n = if n <ℤ? negℤ (pos half) || pos (half - 1) <ℤ? n then refused 17 at else gives (natAbs (n +ℤ pos half))
+integer half at n = if half ≤? natAbs n then refused 17 at else gives (natAbs (n +ℤ pos half))
 
 -- "Str holds the number in two or three bytes": 8, then "reference above 65,535 in a short table": 18
 abbrev pub referenceNumber : Bool → Place → ℤ → Answer ℕ

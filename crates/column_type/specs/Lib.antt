@@ -1,4 +1,5 @@
 pub mod Cells
 pub mod Signed
 pub mod Forms
+pub mod Points
 pub mod inner

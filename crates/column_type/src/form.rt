@@ -14,6 +14,7 @@ ghost use Rattle.column_type.specs.Cells.{width, stored, unstored, integ
 ghost use Rattle.column_type.specs.Forms.{typeIn, longIn, formAnswer, formAs, storedAs, plainInteger, plainReference, plainNumber};
 ghost use Rattle.column_type.specs.inner.Forms.{integerStored, referenceStored, binaryStored};
 
+// How far the smallest integer of 32 bits lies from 0.
 const SMALLEST: u64 = 2_147_483_648;
 
 const MAX_SHORT: u32 = 65_535;
@@ -118,7 +119,7 @@ impl CellForm {
 }
 
 fn integer_stored(cell: Cell, half: u64, row: usize, column: usize) -> Stored
-    requires { ⌜ (0 < half) × (half ≤ 2147483648) ⌝ }
+    requires { ⌜ half ≤ 2147483648 ⌝ }
     ensures { λ r. ⌜ storedAs r ≡ integerStored half (placeOf row column) cell ⌝ }
 {
     if let Cell::Null = cell {
@@ -129,7 +130,7 @@ fn integer_stored(cell: Cell, half: u64, row: usize, column: usize) -> Stored
     };
     let below = SMALLEST - half;
     let biased = crate::signed::bias(n);
-    if biased < below {
+    if biased <= below {
         return Stored::Refused(Refusal::CellIntegerRange { row, column });
     }
     if SMALLEST + half <= biased {

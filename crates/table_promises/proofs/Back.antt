@@ -200,7 +200,7 @@ module _ (ts : List ColumnType) (long : Bool) (rows : ℕ) (cells : Cells) (fine
       fine-cell : refusalOf (cellsOf r) ≡ gives tt
       fine-cell = let z : 0 + r ≡ r = omega arith in rw z at (each-fine cellsOf 0 rows r fine-cells p)
 
-      pub reads-back : cellAt ts long rows all r c ≡ readsAs (typeAt ts c) (kindAt r) (numberOf r)
+      pub reads-back : cellAt ts long rows all r c ≡ readsAs (kindAt r) (numberOf r)
       reads-back =
           let k = kept r fine-cell in
           let at = rows * rowSize (take c ts) long + r * w in
@@ -270,7 +270,7 @@ module _ (t : Table) (rows : ℕ) (cells : Cells) (whole : length (t .columns) �
   cell-back r c p q =
       let n = types-count t (sound .0) whole in
       reads-back types long-refs rows cells fine c (omega arith) r p
-      ∙ ap (λ (x : ℕ). readsAs (typeAt types c) (getD (cells .kinds) (r * x + c) 0) (getD (cells .numbers) (r * x + c) (pos 0))) n
+      ∙ ap (λ (x : ℕ). readsAs (getD (cells .kinds) (r * x + c) 0) (getD (cells .numbers) (r * x + c) (pos 0))) n
 
   by-size : (b : Bool) → eqb (rowSize types long-refs) 0 ≡ b → Result
   by-size false e =

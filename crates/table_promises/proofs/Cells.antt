@@ -14,63 +14,42 @@ use Rattle.column_type.specs.declared.form.ColumnType.the-variants.{Int16, Int3
 use Rattle.column.specs.Check.{isBinary}
 use Rattle.column_type.specs.Cells.{width, integer, stored, unstored, integerCell, referenceCell, referenceNumber}
 use Rattle.column_type.specs.Signed.{biased, unbiased}
-use Rattle.column_type.proofs.Halves.{sub-is, mag-unbiased, biased-lt, unbiased-biased, biased-unbiased, biased-zero, integer-given, within-range}
+use Rattle.column_type.proofs.Halves.{sub-is, near-mag, near-unbiased, biased-lt, biased-some, unbiased-biased, biased-unbiased, integer-given}
 use Rattle.column_type.proofs.Numbers.{integer-number, reference-number}
 use Rattle.column_type.proofs.Cells.{reference-any, reference-short}
-use Rattle.table_promises.specs.Promises.{same, isSmallest, readsAs, CellReadBack, Int16Kept, FortyThousand}
+use Rattle.table_promises.specs.Promises.{readsAs, CellReadBack, Int16Kept, Int32Kept, SmallestRefused, FortyThousand}
 
 abbrev nullOr : Bool → ℕ × ℤ → ℕ × ℤ
 nullOr b v = if b then (0, pos 0) else v
 
--- ---- the smallest integer
-
-smallest-yes : (h : ℕ) → same (negsuc h) (negsuc h) ≡ true
-smallest-yes h = rw (le-ltb h h (omega arith))
-
-smallest-no : (h : ℕ) (z : ℤ) → mag z < suc h → (biased (suc h) z ≡ 0 → ⊥) → same z (negsuc h) ≡ false
-smallest-no h (pos n) m e = refl
-smallest-no h (negsuc n) m e = rw (le-ltb h n (omega arith), lt-ltb n h (let k : n ≡ h → ⊥ = λ q. e (omega arith) in omega (arith, k)))
-
 -- an integer that was stored
-int-back : (h : ℕ) (at : Place) (z : ℤ) (m : ℕ) → integer (suc h) at z ≡ gives m → integerCell (suc h) m ≡ nullOr (same z (negsuc h)) (1, z)
-int-back h at z m e = go (eqb m 0) refl
-  where
-    go : (b : Bool) → eqb m 0 ≡ b → nullOr b (1, pos m -ℤ pos (suc h)) ≡ nullOr (same z (negsuc h)) (1, z)
-    go true q =
-        let f = integer-number (suc h) at z m (omega arith) e in
-        let k : z ≡ negsuc h = biased-zero (suc h) z (f .0) (f .1 ∙ eqb-true m 0 q) ∙ ap negsuc (omega arith) in
-        rw (k, smallest-yes h)
-    go false q =
-        let f = integer-number (suc h) at z m (omega arith) e in
-        let n : biased (suc h) z ≡ 0 → ⊥ = λ p. eqb-false m 0 q (sym (f .1) ∙ p) in
-        let v : pos m -ℤ pos (suc h) ≡ z = sub-is m (suc h) ∙ ap (unbiased (suc h)) (sym (f .1)) ∙ unbiased-biased (suc h) z (f .0) in
-        rw (smallest-no h z (f .0) n, v)
+int-back : (half : ℕ) (at : Place) (z : ℤ) (m : ℕ) → integer half at z ≡ gives m → integerCell half m ≡ (1, z)
+int-back half at z m e =
+    let f = integer-number half at z m e in
+    let some : 0 < m = rw (f .1) at (biased-some half z (f .0)) in
+    let v : pos m -ℤ pos half ≡ z = sub-is m half ∙ ap (unbiased half) (sym (f .1)) ∙ unbiased-biased half z (near-mag half z (f .0)) in
+    rw (ne-eqb m 0 (λ i. omega arith), v)
 
-int-lt : (half : ℕ) (at : Place) (z : ℤ) (m : ℕ) → 0 < half → integer half at z ≡ gives m → m < half + half
-int-lt half at z m p e = let f = integer-number half at z m p e in rw (← f .1) (biased-lt half z (f .0))
+int-lt : (half : ℕ) (at : Place) (z : ℤ) (m : ℕ) → integer half at z ≡ gives m → m < half + half
+int-lt half at z m e = let f = integer-number half at z m e in rw (← f .1) (biased-lt half z (near-mag half z (f .0)))
 
 -- an integer that was read
-int-again : (half : ℕ) (at : Place) (m : ℕ) → m < half + half → integer half at (pos m -ℤ pos half) ≡ gives m
-int-again half at m h = rw (sub-is m half) (integer-given half at (unbiased half m) (mag-unbiased m half h) ∙ ap gives (biased-unbiased half m))
+int-again : (half : ℕ) (at : Place) (m : ℕ) → 0 < m → m < half + half → integer half at (pos m -ℤ pos half) ≡ gives m
+int-again half at m p h = rw (sub-is m half) (integer-given half at (unbiased half m) (near-unbiased m half p h) ∙ ap gives (biased-unbiased half m))
 
 -- ---- the kinds that a column takes
 
 none : {A : Type 0} {n : ℕ} {at : Place} {x : A} {P : Type 0} → refused n at ≡ gives x → P
 none e = absurd (let z : _≡_ {A = ℕ} 0 1 = cc in omega arith)
 
-module _ (h : ℕ) (t : ColumnType) (small : (z : ℤ) → isSmallest t z ≡ same z (negsuc h)) (at : Place) (k : ℕ) (z : ℤ) (m : ℕ) where
-  abbrev IntStored : Bool → Bool → Type 0
-  IntStored a b = (if a then gives 0 else if b then integer (suc h) at z else refused 16 at) ≡ gives m
-
-  int-kinds : (a b : Bool) → eqb k 0 ≡ a → eqb k 1 ≡ b → IntStored a b → integerCell (suc h) m ≡ readsAs t k z
-  int-kinds true b p q e = let i : 0 ≡ m = cc in rw (← i, p)
-  int-kinds false false p q e = none e
-  int-kinds false true p q e =
-      let one : k ≡ 1 = eqb-true k 1 q in
-      rw (one, small z) (int-back h at z m e)
+int-kinds : (half : ℕ) (at : Place) (k : ℕ) (z : ℤ) (m : ℕ) (a b : Bool) → eqb k 0 ≡ a → eqb k 1 ≡ b
+    → (if a then gives 0 else if b then integer half at z else refused 16 at) ≡ gives m → integerCell half m ≡ readsAs k z
+int-kinds half at k z m true b p q e = let i : 0 ≡ m = cc in rw (← i, p)
+int-kinds half at k z m false false p q e = none e
+int-kinds half at k z m false true p q e = rw (eqb-true k 1 q) (int-back half at z m e)
 
 module _ (max : ℕ) (long : Bool) (at : Place) (k : ℕ) (z : ℤ) (m : ℕ) where
-  ref-kinds : (a b : Bool) → eqb k 0 ≡ a → eqb k 2 ≡ b → (if a then gives 0 else if b then referenceNumber long at z else refused 16 at) ≡ gives m → referenceCell m ≡ readsAs (Str max) k z
+  ref-kinds : (a b : Bool) → eqb k 0 ≡ a → eqb k 2 ≡ b → (if a then gives 0 else if b then referenceNumber long at z else refused 16 at) ≡ gives m → referenceCell m ≡ readsAs k z
   ref-kinds true b p q e = let i : 0 ≡ m = cc in rw (← i, p)
   ref-kinds false false p q e = none e
   ref-kinds false true p q e =
@@ -78,13 +57,13 @@ module _ (max : ℕ) (long : Bool) (at : Place) (k : ℕ) (z : ℤ) (m : ℕ) wh
       let r = reference-number long at z m e in
       rw (two, r .is, ne-eqb m 0 (λ i. let l = r .least in omega arith))
 
-binary-kinds : (at : Place) (k : ℕ) (z : ℤ) (m : ℕ) (a : Bool) → eqb k 3 ≡ a → (if a then gives 1 else refused 16 at) ≡ gives m → (3, pos 0) ≡ readsAs Binary k z
+binary-kinds : (at : Place) (k : ℕ) (z : ℤ) (m : ℕ) (a : Bool) → eqb k 3 ≡ a → (if a then gives 1 else refused 16 at) ≡ gives m → (3, pos 0) ≡ readsAs k z
 binary-kinds at k z m true p e = rw (eqb-true k 3 p)
 binary-kinds at k z m false p e = none e
 
 pub cell-read-back : CellReadBack
-cell-read-back Int16 long at k z m e = int-kinds 32767 Int16 (λ y. refl) at k z m (eqb k 0) (eqb k 1) refl refl e
-cell-read-back Int32 long at k z m e = int-kinds 2147483647 Int32 (λ y. refl) at k z m (eqb k 0) (eqb k 1) refl refl e
+cell-read-back Int16 long at k z m e = int-kinds 32768 at k z m (eqb k 0) (eqb k 1) refl refl e
+cell-read-back Int32 long at k z m e = int-kinds 2147483648 at k z m (eqb k 0) (eqb k 1) refl refl e
 cell-read-back (Str max) long at k z m e = ref-kinds max long at k z m (eqb k 0) (eqb k 2) refl refl e
 cell-read-back Binary long at k z m e = binary-kinds at k z m (eqb k 3) refl e
 
@@ -92,7 +71,7 @@ cell-read-back Binary long at k z m e = binary-kinds at k z m (eqb k 3) refl e
 
 int-fits : (half : ℕ) (at : Place) (z : ℤ) (m : ℕ) (a b : Bool) → 0 < half → (if a then gives 0 else if b then integer half at z else refused 16 at) ≡ gives m → m < half + half
 int-fits half at z m true b p e = let i : 0 ≡ m = cc in omega arith
-int-fits half at z m false true p e = int-lt half at z m p e
+int-fits half at z m false true p e = int-lt half at z m e
 int-fits half at z m false false p e = none e
 
 ref-fits : (long : Bool) (at : Place) (z : ℤ) (m : ℕ) (a b : Bool) → (if a then gives 0 else if b then referenceNumber long at z else refused 16 at) ≡ gives m → m < 256 ^ (if long then 3 else 2)
@@ -114,14 +93,14 @@ stored-fits Binary long at k z m e = go (eqb k 3) e
 
 -- ---- what was read is stored as it was
 
-int-stored : (half : ℕ) (at : Place) (m : ℕ) (b : Bool) → eqb m 0 ≡ b → m < half + half
-    → (if eqb (nullOr b (1, pos m -ℤ pos half) .0) 0 then gives 0 else if eqb (nullOr b (1, pos m -ℤ pos half) .0) 1 then integer half at (nullOr b (1, pos m -ℤ pos half) .1) else refused 16 at) ≡ gives m
-int-stored half at m true q h = ap gives (sym (eqb-true m 0 q))
-int-stored half at m false q h = int-again half at m h
-
 one : (k : ℕ) → (k ≡ 0 → ⊥) → 1 ≤ k
 one zero z = absurd (z refl)
 one (suc k) z = omega arith
+
+int-stored : (half : ℕ) (at : Place) (m : ℕ) (b : Bool) → eqb m 0 ≡ b → m < half + half
+    → (if eqb (nullOr b (1, pos m -ℤ pos half) .0) 0 then gives 0 else if eqb (nullOr b (1, pos m -ℤ pos half) .0) 1 then integer half at (nullOr b (1, pos m -ℤ pos half) .1) else refused 16 at) ≡ gives m
+int-stored half at m true q h = ap gives (sym (eqb-true m 0 q))
+int-stored half at m false q h = int-again half at m (one m (eqb-false m 0 q)) h
 
 ref-stored : (long : Bool) (at : Place) (m : ℕ) (b : Bool) → eqb m 0 ≡ b → m < 256 ^ (if long then 3 else 2)
     → (if eqb (nullOr b (2, pos m) .0) 0 then gives 0 else if eqb (nullOr b (2, pos m) .0) 2 then referenceNumber long at (nullOr b (2, pos m) .1) else refused 16 at) ≡ gives m
@@ -139,18 +118,16 @@ stored-again Int32 long at m n h = int-stored 2147483648 at m (eqb m 0) refl h
 stored-again (Str max) long at m n h = ref-stored long at m (eqb m 0) refl h
 stored-again Binary long at m n h = absurd (let z : _≡_ {A = ℕ} 0 1 = cc in omega arith)
 
--- ---- Int16
-
-or-parts : (a b : Bool) → (a || b) ≡ false → (a ≡ false) × (b ≡ false)
-or-parts false false e = (refl, refl)
-or-parts false true e = absurd (let z : _≡_ {A = ℕ} 0 1 = cc in omega arith)
-or-parts true b e = absurd (let z : _≡_ {A = ℕ} 0 1 = cc in omega arith)
+-- ---- integers
 
 pub int16-kept : Int16Kept
-int16-kept long at n m e =
-    let f = integer-number 32768 at n m (lit< tt) e in
-    let r = or-parts _ _ (within-range 32768 n (f .0)) in
-    (r .0, r .1, int-back 32767 at n m e)
+int16-kept long at n m e = (integer-number 32768 at n m e .0, int-back 32768 at n m e)
+
+pub int32-kept : Int32Kept
+int32-kept long at n m e = (integer-number 2147483648 at n m e .0, int-back 2147483648 at n m e)
+
+pub smallest-refused : SmallestRefused
+smallest-refused long r c = (refl, refl)
 
 pub forty-thousand : FortyThousand
 forty-thousand long r c = refl

@@ -4,3 +4,4 @@ pub mod Agree
 pub mod Pieces
 pub mod Rewritten
 pub mod Back
+pub mod Points

@@ -1,11 +1,11 @@
 -- What is promised of columns and tables: what was written reads back, and what was read writes back.
 use Prim.Native.Nat.{ℕ, _+_, _*_, _≤_, _<_}
 use mathlib.Core.Path.{_≡_}
-use mathlib.Core.Bool.{Bool, false, not, _&&_, _||_}
+use mathlib.Core.Bool.{Bool, false, _&&_, _||_}
 use mathlib.Core.List.{List}
-use lib.IntN.{ℤ, pos, negsuc}
+use lib.IntN.{ℤ, pos, negsuc, natAbs}
 use lib.ListN.{length, take, getD}
-use Rattle.common.specs.Choice.{if_then_else_, _=?_, _<ℤ?_}
+use Rattle.common.specs.Choice.{if_then_else_, _=?_}
 use Rattle.common.specs.Lists.{_over_}
 use Rattle.common.specs.Answers.{Place, gives, refused, cell}
 use Rattle.little_endian.specs.Promises.{AreBytes}
@@ -35,30 +35,25 @@ BitsReadBack = (x : Column) (b : ColumnBuilder) (c : ℕ) (n : ℤ) → bitfield
 
 -- ---- cells
 
-abbrev pub same : ℤ → ℤ → Bool
-same m n = not (m <ℤ? n || n <ℤ? m)
+-- what a cell reads as that was written: itself, a Null's and a Binary's number as 0
+abbrev pub readsAs : ℕ → ℤ → ℕ × ℤ
+readsAs kind n = if kind =? 0 then (0, pos 0) else if kind =? 3 then (3, pos 0) else (kind, n)
 
--- "The smallest integer writes 0 and so reads Null"
-abbrev pub isSmallest : ColumnType → ℤ → Bool
-isSmallest Int16 n = same n (negsuc 32767)
-isSmallest Int32 n = same n (negsuc 2147483647)
-isSmallest (Str max) n = false
-isSmallest Binary n = false
-
--- what a cell reads as that was written: itself, "but for the smallest integers, which read as Null, and Null and Binary numbers, which read as 0"
-abbrev pub readsAs : ColumnType → ℕ → ℤ → ℕ × ℤ
-readsAs t kind n =
-    if kind =? 0 || (kind =? 1 && isSmallest t n) then (0, pos 0)
-    else if kind =? 3 then (3, pos 0)
-    else (kind, n)
-
+-- document 02, E2: "every accepted cell outside Binary columns reads back as handed in, a Null's number as 0"; a Binary cell's number as 0 too
 abbrev pub CellReadBack : Type 0
-CellReadBack = (t : ColumnType) (long : Bool) (at : Place) (kind : ℕ) (n : ℤ) (m : ℕ) → stored t long at kind n ≡ gives m → unstored t m ≡ readsAs t kind n
+CellReadBack = (t : ColumnType) (long : Bool) (at : Place) (kind : ℕ) (n : ℤ) (m : ℕ) → stored t long at kind n ≡ gives m → unstored t m ≡ readsAs kind n
 
--- no accepted Int16 cell changes its number on the way through a table, but for the smallest, which is Null there
+-- no accepted integer changes its number on the way through a table
 abbrev pub Int16Kept : Type 0
-Int16Kept = (long : Bool) (at : Place) (n : ℤ) (m : ℕ) → stored Int16 long at 1 n ≡ gives m
-    → ((n <ℤ? negsuc 32767) ≡ false) × ((pos 32767 <ℤ? n) ≡ false) × (unstored Int16 m ≡ (if same n (negsuc 32767) then (0, pos 0) else (1, n)))
+Int16Kept = (long : Bool) (at : Place) (n : ℤ) (m : ℕ) → stored Int16 long at 1 n ≡ gives m → (natAbs n < 32768) × (unstored Int16 m ≡ (1, n))
+
+abbrev pub Int32Kept : Type 0
+Int32Kept = (long : Bool) (at : Place) (n : ℤ) (m : ℕ) → stored Int32 long at 1 n ≡ gives m → (natAbs n < 2147483648) × (unstored Int32 m ≡ (1, n))
+
+-- E2: "Refuse the smallest integer in both integer columns"
+abbrev pub SmallestRefused : Type 0
+SmallestRefused = (long : Bool) (r c : ℕ)
+    → (stored Int16 long (cell r c) 1 (negsuc 32767) ≡ refused 17 (cell r c)) × (stored Int32 long (cell r c) 1 (negsuc 2147483647) ≡ refused 17 (cell r c))
 
 abbrev pub FortyThousand : Type 0
 FortyThousand = (long : Bool) (r c : ℕ) → stored Int16 long (cell r c) 1 (pos 40000) ≡ refused 17 (cell r c)
@@ -77,7 +72,7 @@ ReadThenWrite = (t : Table) (s : List ℕ) (rows : ℕ) (kinds : List ℕ) (numb
 
 -- the cell at row r, column c of those handed in, as it reads
 abbrev pub handedBack : Table → Cells → ℕ → ℕ → ℕ × ℤ
-handedBack t cells r c = readsAs (typeAt (typesOf t) c) (getD (cells .kinds) (r * t .count + c) 0) (getD (cells .numbers) (r * t .count + c) (pos 0))
+handedBack t cells r c = readsAs (getD (cells .kinds) (r * t .count + c) 0) (getD (cells .numbers) (r * t .count + c) (pos 0))
 
 -- "read_rows of what write_rows wrote gives back the cells handed in", as cells read
 abbrev pub WriteThenRead : Type 0

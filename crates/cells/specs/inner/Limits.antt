@@ -8,8 +8,8 @@ use Rattle.column_type.specs.declared.form.CellForm.the-variants.{Int16, Int32,
 use Rattle.cells.specs.declared.judge.Limits.{Limits}
 
 abbrev pub limitsOf : CellForm → Limits
-limitsOf Int16 = record { kind = 1; low = negsuc 32767; high = pos 32767; plain = 0 }
-limitsOf Int32 = record { kind = 1; low = negsuc 2147483647; high = pos 2147483647; plain = 0 }
+limitsOf Int16 = record { kind = 1; low = negsuc 32766; high = pos 32767; plain = 0 }
+limitsOf Int32 = record { kind = 1; low = negsuc 2147483646; high = pos 2147483647; plain = 0 }
 limitsOf ShortRef = record { kind = 2; low = pos 1; high = pos 65535; plain = 0 }
 limitsOf LongRef = record { kind = 2; low = pos 1; high = pos 16777215; plain = 0 }
 limitsOf Binary = record { kind = 3; low = pos 0; high = pos 0; plain = 3 }

@@ -3,6 +3,7 @@ use Rattle.column_type.proofs.Halves.{bias-is, too-low, too-high, in-ra
 use Rattle.column_type.proofs.Cases.{not-integer}
 use Rattle.common.specs.Answers.{cell, gives}
 use mathlib.Core.Path.{ap, sym, _∙_}
+use native.Mathlib.Omega.{arith}
 use borrow.Author.Needs.{needs}
 use Rattle.column_type.proofs.form.integer_stored.Statement.{statement}
 use Rattle.column_type.proofs.form.integer_stored.Tie as tie
@@ -15,14 +16,15 @@ returns-3 c =
     let a = c .before .before .before .before .before .before .args in
     let n = c .before .before .before .cell .given .0 .0 in
     let e = bias-is n (c .before .before .known-told .given .0 .1) (c .before .bias .ensures) in
-    rw (c .before .before .before .cell .given .1) (sym (integer-refused (a .half) (cell (a .row) (a .column)) n (c .before .before .before .before .before .before .pre .0) (too-low (a .half) n (rw e at (c .if1 .taken)))))
+    let low = rw e at (c .if1 .taken) in
+    rw (c .before .before .before .cell .given .1) (sym (integer-refused (a .half) (cell (a .row) (a .column)) n (too-low (a .half) n (c .before .before .before .before .before .before .pre) (omega arith))))
 
 returns-4 : tie.Need-returns-4
 returns-4 c =
     let a = c .before .before .before .before .before .before .before .args in
     let n = c .before .before .before .before .cell .given .0 .0 in
     let e = bias-is n (c .before .before .before .known-told .given .0 .1) (c .before .before .bias .ensures) in
-    rw (c .before .before .before .before .cell .given .1) (sym (integer-refused (a .half) (cell (a .row) (a .column)) n (c .before .before .before .before .before .before .before .pre .0) (too-high (a .half) n (rw e at (c .if2 .taken)))))
+    rw (c .before .before .before .before .cell .given .1) (sym (integer-refused (a .half) (cell (a .row) (a .column)) n (too-high (a .half) n (rw e at (c .if2 .taken)))))
 
 cast-t13 : tie.Need-cast-t13
 cast-t13 c =
@@ -38,7 +40,8 @@ returns-5 c =
     let n = c .before .before .before .before .cell .given .0 .0 in
     let m = c .before .before .before .known-told .given .0 .1 in
     let e = bias-is n m (c .before .before .bias .ensures) in
-    let f = in-range (a .half) n m (c .before .before .before .before .before .before .before .pre .1) (rw e at (c .before .if1 .left)) (rw e at (c .if2 .left)) in
+    let above = rw e at (c .before .if1 .left) in
+    let f = in-range (a .half) n m (c .before .before .before .before .before .before .before .pre) (omega arith) (rw e at (c .if2 .left)) in
     rw (c .before .before .before .before .cell .given .1, e) (ap gives (f .1) ∙ sym (integer-given (a .half) (cell (a .row) (a .column)) n (f .0)))
 
 pub integer-stored-spec : {M : Type 1} → statement M
@@ -54,5 +57,6 @@ integer-stored-spec =
     returns-3
     (λ c. search needs)
     returns-4
+    (λ c. omega arith)
     cast-t13
     returns-5)

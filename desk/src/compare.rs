@@ -113,10 +113,10 @@ impl Run {
         }
     }
 
-    /// Whether a case run alone still shows a difference, and which.
+    /// Whether a case run alone still shows a difference, and which. One that lies outside the domain shows none.
     fn alone(&self, case: &[String]) -> Option<Difference> {
         let mut both = Both::start(&self.sides[0], &self.sides[1]).ok()?;
-        asked(&mut both, case).err()
+        asked(&mut both, case).err().filter(|found| found.wanted.answer != "outside")
     }
 
     fn report(&mut self, cases: &[Case], found: Difference) -> ! {

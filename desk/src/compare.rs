@@ -6,7 +6,6 @@ mod language;
 mod lent;
 mod pipes;
 mod random;
-mod requests;
 
 use cases::{Case, Cases};
 use pipes::{Both, ENDED};
@@ -42,10 +41,9 @@ struct Wanted {
 const BY_REQUEST: &str = "document 02";
 
 impl Wanted {
-    fn new(line: &str, krate: String) -> Wanted {
-        let instead = if krate == "outside" { requests::instead_of(line) } else { None };
-        match instead {
-            Some(answer) => Wanted { who: BY_REQUEST, answer },
+    fn new(krate: String) -> Wanted {
+        match krate.strip_prefix("request ") {
+            Some(answer) => Wanted { who: BY_REQUEST, answer: answer.into() },
             None => Wanted { who: "crate", answer: krate },
         }
     }
@@ -61,7 +59,7 @@ struct Difference {
 /// What was wanted on each line, where the port answers so; else the first on which it does not.
 fn asked(both: &mut Both, lines: &[String]) -> Result<Vec<Wanted>, Difference> {
     let (krate, mut port) = both.ask(lines);
-    let mut wanted: Vec<Wanted> = lines.iter().zip(krate).map(|(line, krate)| Wanted::new(line, krate)).collect();
+    let mut wanted: Vec<Wanted> = krate.into_iter().map(Wanted::new).collect();
     match wanted.iter().zip(&port).position(|(wanted, port)| wanted.answer != *port || port == ENDED) {
         Some(at) => Err(Difference { at, wanted: wanted.swap_remove(at), port: port.swap_remove(at) }),
         None => Ok(wanted),
@@ -203,6 +201,7 @@ impl Run {
 fn lent_answers(both: &mut Both, case: &lent::LentCase) -> Result<(), (usize, String, String)> {
     let lines: Vec<String> = case.lines.iter().map(|(line, _)| line.clone()).collect();
     let (krate, port) = both.ask(&lines);
+    let krate: Vec<String> = krate.into_iter().map(|answer| Wanted::new(answer).answer).collect();
     for (at, answer) in port.iter().enumerate() {
         let Some(expected) = lent::expected(case, at, &krate) else { continue };
         // Of `held`, the rooms and the output are looked at by turns.

@@ -114,18 +114,19 @@ impl CrateSide {
     }
 
     pub fn answer(&mut self, command: Command) -> Answer {
-        match catch_unwind(AssertUnwindSafe(|| self.asked(command))) {
+        let given = match catch_unwind(AssertUnwindSafe(|| self.asked(command.clone()))) {
             Ok(Ok(answer)) => answer,
             Ok(Err(Stop::Refused(number, place))) => Answer::Refused(number, place),
             Ok(Err(Stop::Outside)) => Answer::Outside,
             Err(payload) => Answer::Refused(panic_number(&*payload), Place::Nowhere),
+        };
+        match requests::instead(&command, &given) {
+            Some(answer) if !self.raw => Answer::Request(Box::new(answer)),
+            _ => given,
         }
     }
 
     fn asked(&mut self, command: Command) -> Asked<Answer> {
-        if !self.raw && requests::instead(&command).is_some() {
-            return Err(Stop::Outside);
-        }
         Ok(match command {
             Command::Enc(table, name) => units(&streamname::encode(&self.name(&name, MAX_NAME)?, table)),
             Command::Dec(name) => self.decoded(&name)?,

@@ -16,6 +16,7 @@ pub enum Rule {
     Columns,
     /// By document 02.
     Forbidden,
+    EmptyCell,
 }
 
 impl Rule {
@@ -28,6 +29,7 @@ impl Rule {
             Rule::Name => "a stream name that is no well-formed UTF-16 and cannot be said to the crate",
             Rule::Columns => "a layout of over 64 columns, which the port refuses",
             Rule::Forbidden => "a name that the container will not take or that would be shown as another, to which the crate says yes",
+            Rule::EmptyCell => "a Binary cell of 0, which the crate reads as Binary and writes as 1",
         }
     }
 
@@ -41,6 +43,7 @@ impl Rule {
             Rule::Name => "enc 0 d800",
             Rule::Columns => "read 0 1282,1282,",
             Rule::Forbidden => "valid 0 0066006f006e00740073002f006c006100740069006e",
+            Rule::EmptyCell => "read 0 2304 0000",
         }
     }
 }

@@ -4,7 +4,9 @@ use crate::findings::{Findings, Rule};
 use crate::language::{bytes_of, put_bytes};
 use crate::layouts::Layout;
 use crate::reading::Pool;
+use crate::requests::Empty;
 use crate::shown;
+use std::collections::BTreeSet;
 
 /// A text's bytes as a value's word.
 fn text_word(bytes: &[u8]) -> String {
@@ -31,11 +33,10 @@ pub fn whole(findings: &mut Findings, place: impl FnOnce() -> String, krate: &st
     }
 }
 
-/// The port's answer where document 02 has another than the crate: held to that, and expected where the crate departs from it.
-pub fn by_request(findings: &mut Findings, place: impl FnOnce() -> String, rule: Rule, [wanted, krate, port]: [&str; 3]) {
+/// What the port says where document 02 has something else than the crate: held to that, and expected where the crate departs from it.
+pub fn by_request(findings: &mut Findings, place: impl FnOnce() -> String, rule: Rule, [wanted, krate, port]: [String; 3]) {
     if port != wanted {
-        let said = [("crate", krate), ("port", port), ("document 02", wanted)];
-        findings.differ(place, &said.map(|(who, answer)| (who, shown::answer(answer))));
+        findings.differ(place, &[("crate", krate), ("port", port), ("document 02", wanted)]);
     } else if krate != port {
         findings.expect(rule, place);
     }
@@ -71,9 +72,9 @@ pub fn streams(findings: &mut Findings, what: &str, voices: [(&str, &[u8]); 2]) 
     }
 }
 
-/// The cells that were read.
-pub fn cells(findings: &mut Findings, layout: &Layout, krate: &str, port: &str) {
-    if krate == port {
+/// The cells that were read; those that are empty by the package's own bytes are document 02's.
+pub fn cells(findings: &mut Findings, layout: &Layout, empty: &[Empty], krate: &str, port: &str) {
+    if krate == port && empty.is_empty() {
         return;
     }
     if layout.columns.len() > 64 && port == "error 20" {
@@ -81,8 +82,13 @@ pub fn cells(findings: &mut Findings, layout: &Layout, krate: &str, port: &str) 
     }
     match (list_given(krate), list_given(port)) {
         (Some((_, ours)), Some((_, theirs))) if ours.len() == theirs.len() => {
-            for (at, (one, other)) in ours.iter().zip(&theirs).enumerate().filter(|(_, (one, other))| one != other) {
-                findings.differ(|| layout.place(at), &[("crate", shown::word(one)), ("port", shown::word(other))]);
+            let empty: BTreeSet<usize> = empty.iter().map(|empty| empty.cell).collect();
+            for (at, (one, other)) in ours.iter().zip(&theirs).enumerate() {
+                if empty.contains(&at) {
+                    by_request(findings, || layout.place(at), Rule::EmptyCell, ["n", one, other].map(shown::word));
+                } else if one != other {
+                    findings.differ(|| layout.place(at), &[("crate", shown::word(one)), ("port", shown::word(other))]);
+                }
             }
         }
         _ => findings.differ(|| layout.name(), &[("crate", list_words(krate)), ("port", list_words(port))]),
@@ -127,6 +133,8 @@ impl Values<'_> {
         let own = wanted.strip_prefix('t').and_then(bytes_of).unwrap_or_default();
         match rule_of(self.pool.page, &own) {
             Some(rule) if port == wanted && krate.starts_with('t') => findings.expect(rule, || self.layout.place(at)),
+            // The cell itself was held to the package's bytes.
+            _ if (krate, port, wanted) == ("b", "n", "n") => findings.expect(Rule::EmptyCell, || self.layout.place(at)),
             _ => {
                 let of = |one, other| shown::beside(one, if krate == port { wanted } else { other });
                 let third = if wanted.starts_with('t') { "package" } else { "its cell" };

@@ -128,6 +128,8 @@ pub enum Answer {
     Held(Held),
     Refused(u32, Place),
     Outside,
+    /// What the port has to answer where document 02 changed the crate's answer.
+    Request(Box<Answer>),
     Bad,
 }
 
@@ -445,6 +447,10 @@ impl Answer {
         match self {
             Answer::Refused(number, place) => put_refusal(*number, *place, out),
             Answer::Outside => out.push_str("outside"),
+            Answer::Request(answer) => {
+                out.push_str("request ");
+                answer.put(out);
+            }
             Answer::Bad => out.push_str("bad"),
             Answer::Done => out.push_str("ok"),
             _ => {

@@ -1,4 +1,5 @@
 //! The layouts of a package's tables, from the cells of _Columns.
+use crate::language::{self, Made};
 use crate::reading::Pool;
 use crate::shown;
 use std::collections::BTreeMap;
@@ -31,6 +32,11 @@ impl Layout {
 
     pub fn word(&self) -> String {
         self.columns.iter().map(|column| column.bits.to_string()).collect::<Vec<_>>().join(",")
+    }
+
+    /// The same in the words of the command language.
+    pub fn handed(&self, long: bool) -> language::Layout {
+        language::Layout { long, columns: self.columns.iter().map(|column| Made::Bits(column.bits)).collect() }
     }
 
     pub fn name(&self) -> String {

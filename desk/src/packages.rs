@@ -14,6 +14,7 @@ mod reading;
 #[path = "../../rust/src/refusal.rs"]
 mod refusal;
 mod report;
+#[allow(dead_code)]
 mod requests;
 mod shown;
 mod summary;

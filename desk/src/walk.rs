@@ -185,8 +185,8 @@ impl<'a> Walk<'a> {
                 if command == "dec" && port[at] != own {
                     let said = [("crate", &krate[at]), ("port", &port[at]), ("package", &own)];
                     self.findings.differ(place, &said.map(|(who, name)| (who, shown::name(name))));
-                } else if let Some(wanted) = requests::instead_of(&lines[at]) {
-                    judge::by_request(&mut self.findings, place, Rule::Forbidden, [&wanted, &krate[at], &port[at]]);
+                } else if command == "valid" && requests::is_forbidden(&stream.name) {
+                    judge::by_request(&mut self.findings, place, Rule::Forbidden, ["ok 0", &krate[at], &port[at]].map(shown::answer));
                 } else if ill_formed && krate[at] == "outside" && port[at].starts_with("ok") {
                     self.findings.expect(Rule::Name, place);
                 } else {

@@ -1,8 +1,10 @@
 //! The tables of a package: which there are, their cells and values, and their streams written again.
+use crate::findings::Rule;
 use crate::judge::{self, Values};
 use crate::layouts::{self, Layout};
 use crate::reading::{self, Pool};
 use crate::refusal::Refusal;
+use crate::requests::{self, Empty};
 use crate::shown;
 use crate::walk::{flag, hex, units, Ended, Miscounted, TableSeen, Walk, EXACT};
 use std::collections::BTreeSet;
@@ -89,7 +91,8 @@ impl Walk<'_> {
         let what = format!("{} {} {}", flag(own.long), layout.word(), hex(&bytes));
         self.progress.begin(format!("{}: table {}, {} bytes", self.name, layout.name(), bytes.len()));
         let (krate, port) = self.ask(&[format!("read {what}"), format!("rows {what}")])?;
-        judge::cells(&mut self.findings, &layout, &krate[0], &port[0]);
+        let empty = requests::empty_cells(&layout.handed(own.long), &bytes);
+        judge::cells(&mut self.findings, &layout, &empty, &krate[0], &port[0]);
         self.tally.tables += 1;
         self.tally.without_stream += usize::from(before.is_none());
         let answer = if port[0].starts_with("ok ") { port[0].clone() } else { krate[0].clone() };
@@ -107,7 +110,8 @@ impl Walk<'_> {
             self.tally.cells += cells.len();
             self.note_uses(&cells);
             if seen.refusal.is_none() {
-                self.table_written(&mut seen, flag(own.long), &answer)?;
+                let by_crate = if krate[0].starts_with("ok ") { &krate[0] } else { &answer };
+                self.table_written(&mut seen, flag(own.long), [by_crate, &answer], &empty)?;
             }
         }
         self.seen.push(seen);
@@ -122,21 +126,37 @@ impl Walk<'_> {
         seen.result = "refused".into();
     }
 
-    fn table_written(&mut self, seen: &mut TableSeen, long: u8, answer: &str) -> Result<(), Ended> {
-        let counted = answer.strip_prefix("ok ").unwrap_or("0 -");
-        let (krate, port) = self.ask(&[format!("write {long} {} {counted}", seen.layout.word())])?;
-        match (judge::bytes_given(&krate[0]), judge::bytes_given(&port[0])) {
-            (Some(one), Some(other)) => {
-                judge::streams(&mut self.findings, &seen.layout.name(), [("crate", &one), ("port", &other)]);
-            }
-            _ => judge::whole(&mut self.findings, || format!("{} as written", seen.layout.name()), &krate[0], &port[0]),
+    /// Each side writes the cells that it read.
+    fn table_written(&mut self, seen: &mut TableSeen, long: u8, read: [&str; 2], empty: &[Empty]) -> Result<(), Ended> {
+        let layout = seen.layout.word();
+        let mut lines = read.map(|answer| format!("write {long} {layout} {}", answer.strip_prefix("ok ").unwrap_or("0 -"))).to_vec();
+        lines.dedup();
+        let (krate, port) = self.ask(&lines)?;
+        let (krate, port) = (&krate[0], &port[lines.len() - 1]);
+        match (judge::bytes_given(krate), judge::bytes_given(port)) {
+            (Some(one), Some(other)) => self.streams_written(&seen.layout.name(), empty, one, &other),
+            _ => judge::whole(&mut self.findings, || format!("{} as written", seen.layout.name()), krate, port),
         }
-        seen.after = judge::bytes_given(&port[0]);
+        seen.after = judge::bytes_given(port);
         seen.result = match &seen.before {
             Some(before) => self.compared(&seen.layout.name(), before, seen.after.as_deref()),
             None => "no stream".into(),
         };
         Ok(())
+    }
+
+    /// The crate's stream beside the port's: it has 1 in each empty cell, and with 0 there it is what document 02 wants.
+    fn streams_written(&mut self, table: &str, empty: &[Empty], mut krate: Vec<u8>, port: &[u8]) {
+        let starts = empty.iter().map(|cell| cell.start);
+        let filled: Vec<usize> = starts.filter(|start| krate.get(*start..*start + 2) == Some(&[1, 0])).collect();
+        let who = if filled.is_empty() { "crate" } else { "document 02" };
+        if !filled.is_empty() {
+            self.findings.expect(Rule::EmptyCell, || format!("{table} as written"));
+            let cells = if filled.len() == 1 { "an empty cell".into() } else { format!("{} empty cells", filled.len()) };
+            self.findings.notes.push(format!("{table} as the crate writes it is not as it was: {cells} became 1"));
+            filled.iter().for_each(|start| krate[*start] = 0);
+        }
+        judge::streams(&mut self.findings, table, [(who, &krate), ("port", port)]);
     }
 
     fn reported(&mut self, layout: &Layout, krate: &str, port: &str) {

@@ -55,13 +55,14 @@ module _ (at : Place) (n : ℤ) where
       rw (s .0, s .1)
   short-held false false e = absurd (let y : _≡_ {A = ℕ} 0 1 = cc in omega arith)
 
-  binary-held : (a : Bool) → (a || a && not (n <ℤ? pos 0 || pos 0 <ℤ? n)) ≡ true → gives tt ≡ refusalOf {A = ℕ} (if a then gives 1 else refused 16 at)
-  binary-held true e = refl
-  binary-held false e = absurd (let y : _≡_ {A = ℕ} 0 1 = cc in omega arith)
+  binary-held : (a b c : Bool) → (b || a && c) ≡ true → gives tt ≡ refusalOf {A = ℕ} (if a then gives 0 else if b then gives 1 else refused 16 at)
+  binary-held true b c e = refl
+  binary-held false true c e = refl
+  binary-held false false c e = absurd (let y : _≡_ {A = ℕ} 0 1 = cc in omega arith)
 
   pub held : (f : CellForm) (k : ℕ) → inLimits (limitsOf f) k n ≡ true → gives tt ≡ refusalOf (stored (typeIn f) (longIn f) at k n)
   held Int16 k e = integer-held 32766 (k =? 0) (k =? 1) e
   held Int32 k e = integer-held 2147483646 (k =? 0) (k =? 1) e
   held ShortRef k e = short-held (k =? 0) (k =? 2) e
   held LongRef k e = long-held (k =? 0) (k =? 2) e
-  held Binary k e = binary-held (k =? 3) e
+  held Binary k e = binary-held (k =? 0) (k =? 3) (not (n <ℤ? negsuc 2147483647 || pos 2147483647 <ℤ? n)) e

@@ -67,7 +67,7 @@ fn limits_of(form: CellForm) -> Limits
         CellForm::Int32 => between(1, -2_147_483_647, 2_147_483_647, 0),
         CellForm::ShortRef => between(2, 1, 65_535, 0),
         CellForm::LongRef => between(2, 1, 16_777_215, 0),
-        CellForm::Binary => between(3, 0, 0, 3),
+        CellForm::Binary => between(0, -2_147_483_648, 2_147_483_647, 3),
     }
 }
 

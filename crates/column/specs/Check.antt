@@ -46,10 +46,10 @@ textFits Int32 bytes = false
 textFits (Str max) bytes = max =? 0 || bytes ≤? max
 textFits Binary bytes = false
 
--- "Null, if nullable and not Binary; Int, [as above]; text, [as above]; Binary, on Binary"
+-- "Null, if nullable" (document 02, E6: in a Binary column too); "Int, [as above]; text, [as above]; Binary, on Binary"
 abbrev pub suits : Column → ℕ → ℤ → ℕ → Bool
 suits x kind n bytes =
-    if kind =? 0 then x .«is_nullable» && not (isBinary (x .coltype))
+    if kind =? 0 then x .«is_nullable»
     else if kind =? 1 then inside (x .«value_range») n && integerFits (x .coltype) n
     else if kind =? 2 then textFits (x .coltype) bytes
     else isBinary (x .coltype)

@@ -37,12 +37,7 @@ fn allows(column: Column, value: ValueRef, bytes: usize) -> bool
 {
     let coltype = column.coltype;
     match value {
-        ValueRef::Null => {
-            if is_binary(coltype) {
-                return false;
-            }
-            column.is_nullable
-        }
+        ValueRef::Null => column.is_nullable,
         ValueRef::Int(n) => {
             let range = column.value_range;
             if in_range(n, range) {

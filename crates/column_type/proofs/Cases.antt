@@ -10,7 +10,7 @@ use Rattle.common.specs.Answers.{Place, refused}
 use Rattle.value.proofs.Cell.{the-type}
 use Rattle.value.specs.declared.Cell.{Cell}
 use Rattle.value.specs.declared.Cell.the-variants.{Null, Int, Str, Binary, Unknown}
-use Rattle.column_type.specs.Forms.{plainInteger, plainReference}
+use Rattle.column_type.specs.Forms.{plainInteger, plainReference, plainBinary}
 use Rattle.column_type.specs.inner.Forms.{integerStored, referenceStored, binaryStored}
 
 none4 : {n a b c d : ℕ} → (n ≡ a → ⊥) → (n ≡ b → ⊥) → (n ≡ c → ⊥) → (n ≡ d → ⊥) → OneOf (a ∷ b ∷ c ∷ d ∷ []) n → ⊥
@@ -33,12 +33,12 @@ not-reference long at (Str n) k o = absurd (none4 (λ e. omega arith) (λ e. ome
 not-reference long at Binary k o = refl
 not-reference long at Unknown k o = refl
 
-pub not-binary : (at : Place) (v : Cell) → OneOf (0 ∷ 1 ∷ 2 ∷ 4 ∷ []) (tagOf the-type v) → refused 16 at ≡ binaryStored at v
-not-binary at Null o = refl
-not-binary at (Int n) o = refl
-not-binary at (Str n) o = refl
-not-binary at Binary o = absurd (none4 (λ e. omega arith) (λ e. omega arith) (λ e. omega arith) (λ e. omega arith) o)
-not-binary at Unknown o = refl
+pub not-binary : (at : Place) (v : Cell) → OneOf (1 ∷ 2 ∷ 3 ∷ 4 ∷ []) (tagOf the-type v) → OneOf (0 ∷ 1 ∷ 2 ∷ 4 ∷ []) (tagOf the-type v) → refused 16 at ≡ binaryStored at v
+not-binary at Null k o = absurd (none4 (λ e. omega arith) (λ e. omega arith) (λ e. omega arith) (λ e. omega arith) k)
+not-binary at (Int n) k o = refl
+not-binary at (Str n) k o = refl
+not-binary at Binary k o = absurd (none4 (λ e. omega arith) (λ e. omega arith) (λ e. omega arith) (λ e. omega arith) o)
+not-binary at Unknown k o = refl
 
 -- and what such a cell's number is, where nothing is judged
 pub no-integer : (half : ℕ) (v : Cell) → OneOf (0 ∷ 2 ∷ 3 ∷ 4 ∷ []) (tagOf the-type v) → 0 ≡ plainInteger half v
@@ -54,3 +54,10 @@ no-reference (Int n) o = refl
 no-reference (Str n) o = absurd (none4 (λ e. omega arith) (λ e. omega arith) (λ e. omega arith) (λ e. omega arith) o)
 no-reference Binary o = refl
 no-reference Unknown o = refl
+
+pub no-binary : (v : Cell) → OneOf (0 ∷ 1 ∷ 2 ∷ 4 ∷ []) (tagOf the-type v) → 0 ≡ plainBinary v
+no-binary Null o = refl
+no-binary (Int n) o = refl
+no-binary (Str n) o = refl
+no-binary Binary o = absurd (none4 (λ e. omega arith) (λ e. omega arith) (λ e. omega arith) (λ e. omega arith) o)
+no-binary Unknown o = refl

@@ -26,7 +26,7 @@ reference-by-kind long at (Str n) = refl
 reference-by-kind long at Binary = refl
 reference-by-kind long at Unknown = refl
 
-pub binary-by-kind : (at : Place) (v : Cell) → binaryStored at v ≡ (if handedKind v =? 3 then gives 1 else refused 16 at)
+pub binary-by-kind : (at : Place) (v : Cell) → binaryStored at v ≡ (if handedKind v =? 0 then gives 0 else if handedKind v =? 3 then gives 1 else refused 16 at)
 binary-by-kind at Null = refl
 binary-by-kind at (Int n) = refl
 binary-by-kind at (Str n) = refl

@@ -19,7 +19,7 @@ use Rattle.column_type.specs.declared.form.CellForm.{CellForm}
 use Rattle.column_type.specs.declared.form.CellForm.the-variants as form
 use Rattle.column_type.specs.Cells.{stored, integer, referenceNumber}
 use Rattle.column_type.specs.Signed.{biased, wrapped}
-use Rattle.column_type.specs.Forms.{typeIn, longIn, plainInteger, plainReference, plainNumber}
+use Rattle.column_type.specs.Forms.{typeIn, longIn, plainInteger, plainReference, plainBinary, plainNumber}
 use Rattle.column_type.specs.inner.Forms.{integerStored, referenceStored, binaryStored}
 use Rattle.column_type.proofs.Halves.{add-biased, near-mag}
 use Rattle.column_type.proofs.Forms.{integer-by-kind, reference-by-kind, binary-by-kind}
@@ -43,7 +43,7 @@ module _ (long : Bool) (at : Place) where
   unknown-kind Int16 k n a b c d = rw (a, b)
   unknown-kind Int32 k n a b c d = rw (a, b)
   unknown-kind (Str max) k n a b c d = rw (a, c)
-  unknown-kind Binary k n a b c d = rw d
+  unknown-kind Binary k n a b c d = rw (a, d)
 
   pub handed-stored : (t : ColumnType) (k : ℕ) (n : ℤ) → stored t long at (handedKind (cellOf k n)) (handedNumber (cellOf k n)) ≡ stored t long at k n
   handed-stored t k n = go (eqb k 0) (eqb k 1) (eqb k 2) (eqb k 3) refl refl refl refl
@@ -122,8 +122,8 @@ ref-plain long at (cell.Str z) m e = let r = reference-number long at z m e in a
 ref-plain long at cell.Binary m e = absurd (let y : _≡_ {A = ℕ} 0 1 = cc in omega arith)
 ref-plain long at cell.Unknown m e = absurd (let y : _≡_ {A = ℕ} 0 1 = cc in omega arith)
 
-bin-plain : (at : Place) (v : Cell) (m : ℕ) → binaryStored at v ≡ gives m → 1 ≡ m
-bin-plain at cell.Null m e = absurd (let y : _≡_ {A = ℕ} 0 1 = cc in omega arith)
+bin-plain : (at : Place) (v : Cell) (m : ℕ) → binaryStored at v ≡ gives m → plainBinary v ≡ m
+bin-plain at cell.Null m e = cc
 bin-plain at (cell.Int z) m e = absurd (let y : _≡_ {A = ℕ} 0 1 = cc in omega arith)
 bin-plain at (cell.Str z) m e = absurd (let y : _≡_ {A = ℕ} 0 1 = cc in omega arith)
 bin-plain at cell.Binary m e = cc

@@ -1,6 +1,6 @@
 -- The points of specs/Points.antt, by computation.
 use mathlib.Core.Path.{refl}
-use Rattle.column_type.specs.Points.{Int16Bounds, Int32Bounds, KindFirst, NullNumber, ReadAsBefore}
+use Rattle.column_type.specs.Points.{Int16Bounds, Int32Bounds, KindFirst, NullNumber, ReadAsBefore, BinaryRead, BinaryWritten, BinaryRefused}
 
 pub int16-bounds : Int16Bounds
 int16-bounds = (λ l a. refl, λ l a. refl, λ l a. refl, λ l a. refl, λ l a. refl)
@@ -16,3 +16,12 @@ null-number = (λ l a. refl, λ l a. refl)
 
 pub read-as-before : ReadAsBefore
 read-as-before = (refl, refl, refl, refl)
+
+pub binary-read : BinaryRead
+binary-read = (refl, refl, refl, refl, refl)
+
+pub binary-written : BinaryWritten
+binary-written = (λ n l a. refl, λ n l a. refl)
+
+pub binary-refused : BinaryRefused
+binary-refused = (λ n l a. refl, λ n l a. refl, λ n l a. refl)

@@ -25,12 +25,12 @@ abbrev pub referenceNumber : Bool → Place → ℤ → Answer ℕ
 referenceNumber long at n = onGiven (reference at n) (λ r. if not long && pos 65535 <ℤ? r then refused 18 at else gives (natAbs r))
 
 -- "a cell of any other kind is refused with 16 before its number is looked at; then 17, or 8 and 18"; "0 for Null";
--- "Binary writes 01 00; Null there is 16"
+-- document 02, E6: "write Null as 00 00 and Binary as 01 00"
 abbrev pub stored : ColumnType → Bool → Place → ℕ → ℤ → Answer ℕ
 stored Int16 long at kind n = if kind =? 0 then gives 0 else if kind =? 1 then integer 32768 at n else refused 16 at
 stored Int32 long at kind n = if kind =? 0 then gives 0 else if kind =? 1 then integer 2147483648 at n else refused 16 at
 stored (Str max) long at kind n = if kind =? 0 then gives 0 else if kind =? 2 then referenceNumber long at n else refused 16 at
-stored Binary long at kind n = if kind =? 3 then gives 1 else refused 16 at
+stored Binary long at kind n = if kind =? 0 then gives 0 else if kind =? 3 then gives 1 else refused 16 at
 
 -- "stored 0 is Null"
 abbrev pub integerCell : ℕ → ℕ → ℕ × ℤ
@@ -39,9 +39,13 @@ integerCell half n = if n =? 0 then (0, pos 0) else (1, pos n -ℤ pos half)
 abbrev pub referenceCell : ℕ → ℕ × ℤ
 referenceCell n = if n =? 0 then (0, pos 0) else (2, pos n)
 
--- the kind and the number of a stored number; "Binary reads any two bytes as Binary"
+-- E6: "Read 0 as Null and any other as Binary"
+abbrev pub binaryCell : ℕ → ℕ × ℤ
+binaryCell n = if n =? 0 then (0, pos 0) else (3, pos 0)
+
+-- the kind and the number of a stored number
 abbrev pub unstored : ColumnType → ℕ → ℕ × ℤ
 unstored Int16 n = integerCell 32768 n
 unstored Int32 n = integerCell 2147483648 n
 unstored (Str max) n = referenceCell n
-unstored Binary n = (3, pos 0)
+unstored Binary n = binaryCell n

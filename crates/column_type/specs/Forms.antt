@@ -73,9 +73,16 @@ plainReference (Str n) = wrapped 0 n
 plainReference Binary = 0
 plainReference Unknown = 0
 
+abbrev pub plainBinary : Cell → ℕ
+plainBinary Null = 0
+plainBinary (Int n) = 0
+plainBinary (Str n) = 0
+plainBinary Binary = 1
+plainBinary Unknown = 0
+
 abbrev pub plainNumber : CellForm → Cell → ℕ
 plainNumber form.Int16 v = plainInteger 32768 v
 plainNumber form.Int32 v = plainInteger 2147483648 v
 plainNumber form.ShortRef v = plainReference v
 plainNumber form.LongRef v = plainReference v
-plainNumber form.Binary v = 1
+plainNumber form.Binary v = plainBinary v

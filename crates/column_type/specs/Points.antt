@@ -1,11 +1,11 @@
--- Points: what an integer column stores and reads at the bounds of document 02's E2 and one past them, each computed from the definition.
+-- Points: what a column stores and reads at the bounds of document 02's rules and one past them, each computed from the definition.
 use mathlib.Core.Path.{_≡_}
 use mathlib.Core.Bool.{Bool}
 use Prim.Native.Nat.{ℕ}
 use lib.IntN.{ℤ, pos, negsuc}
 use Rattle.common.specs.Answers.{Place, gives, refused}
 use Rattle.column_type.specs.declared.form.ColumnType.{ColumnType}
-use Rattle.column_type.specs.declared.form.ColumnType.the-variants.{Int16, Int32}
+use Rattle.column_type.specs.declared.form.ColumnType.the-variants.{Int16, Int32, Binary}
 use Rattle.column_type.specs.Cells.{stored, unstored}
 
 -- at either width of references, wherever the cell stands: it is stored as this number, or refused with that one
@@ -14,6 +14,8 @@ Stored t kind n m = (long : Bool) (at : Place) → stored t long at kind n ≡ g
 
 abbrev pub Refused : ColumnType → ℕ → ℤ → ℕ → Type 0
 Refused t kind n refusal = (long : Bool) (at : Place) → stored t long at kind n ≡ refused refusal at
+
+-- ---- E2
 
 -- "Refuse the smallest integer in both integer columns": -32,769 and -32,768 are 17, -32,767 is stored; above, 32,767 and not 32,768
 abbrev pub Int16Bounds : Type 0
@@ -39,3 +41,19 @@ abbrev pub ReadAsBefore : Type 0
 ReadAsBefore =
     (unstored Int16 0 ≡ (0, pos 0)) × (unstored Int16 1 ≡ (1, negsuc 32766))
     × (unstored Int32 0 ≡ (0, pos 0)) × (unstored Int32 1 ≡ (1, negsuc 2147483646))
+
+-- ---- E6
+
+-- "Read 0 as Null and any other as Binary": any other of the two bytes
+abbrev pub BinaryRead : Type 0
+BinaryRead =
+    (unstored Binary 0 ≡ (0, pos 0)) × (unstored Binary 1 ≡ (3, pos 0)) × (unstored Binary 2 ≡ (3, pos 0))
+    × (unstored Binary 256 ≡ (3, pos 0)) × (unstored Binary 65535 ≡ (3, pos 0))
+
+-- "write Null as 00 00 and Binary as 01 00", whatever their numbers
+abbrev pub BinaryWritten : Type 0
+BinaryWritten = ((n : ℤ) → Stored Binary 0 n 0) × ((n : ℤ) → Stored Binary 3 n 1)
+
+-- "16 is no longer given for Null in Binary", but for Int, Str and unknown kinds
+abbrev pub BinaryRefused : Type 0
+BinaryRefused = ((n : ℤ) → Refused Binary 1 n 16) × ((n : ℤ) → Refused Binary 2 n 16) × ((n : ℤ) → Refused Binary 4 n 16)

@@ -10,8 +10,8 @@ ghost use Rattle.common.specs.Answers.{cell as placeOf};
 ghost use Rattle.little_endian.specs.Numbers.{numberAt};
 ghost use Rattle.value.specs.Kinds.{cellAs};
 ghost use Rattle.value.specs.Handed.{handedKind, handedNumber};
-ghost use Rattle.column_type.specs.Cells.{width, stored, unstored, integerCell, referenceCell};
-ghost use Rattle.column_type.specs.Forms.{typeIn, longIn, formAnswer, formAs, storedAs, plainInteger, plainReference, plainNumber};
+ghost use Rattle.column_type.specs.Cells.{width, stored, unstored, integerCell, referenceCell, binaryCell};
+ghost use Rattle.column_type.specs.Forms.{typeIn, longIn, formAnswer, formAs, storedAs, plainInteger, plainReference, plainBinary, plainNumber};
 ghost use Rattle.column_type.specs.inner.Forms.{integerStored, referenceStored, binaryStored};
 
 // How far the smallest integer of 32 bits lies from 0.
@@ -19,8 +19,10 @@ const SMALLEST: u64 = 2_147_483_648;
 
 const MAX_SHORT: u32 = 65_535;
 
-// What a column but a Binary one stores for Null.
+// What a column stores for Null, and a Binary one for Binary.
 const NULL: u32 = 0;
+
+const BINARY: u32 = 1;
 
 pub enum ColumnType {
     Int16,
@@ -106,7 +108,7 @@ impl CellForm {
             CellForm::Int32 => integer_number(cell, SMALLEST),
             CellForm::ShortRef => reference_number(cell),
             CellForm::LongRef => reference_number(cell),
-            CellForm::Binary => 1,
+            CellForm::Binary => binary_number(cell),
         }
     }
 
@@ -165,10 +167,13 @@ fn reference_stored(cell: Cell, long: bool, row: usize, column: usize) -> Stored
 fn binary_stored(cell: Cell, row: usize, column: usize) -> Stored
     ensures { λ r. ⌜ storedAs r ≡ binaryStored (placeOf row column) cell ⌝ }
 {
+    if let Cell::Null = cell {
+        return Stored::Number(NULL);
+    }
     let Cell::Binary = cell else {
         return Stored::Refused(Refusal::CellKind { row, column });
     };
-    Stored::Number(1)
+    Stored::Number(BINARY)
 }
 
 fn integer_number(cell: Cell, half: u64) -> u32
@@ -190,6 +195,15 @@ fn reference_number(cell: Cell) -> u32
     crate::signed::wrapped(number, 0)
 }
 
+fn binary_number(cell: Cell) -> u32
+    ensures { λ r. ⌜ r ≡ plainBinary cell ⌝ }
+{
+    let Cell::Binary = cell else {
+        return NULL;
+    };
+    BINARY
+}
+
 // The value of a number that the cells of a form hold.
 fn value_of(form: CellForm, number: u32) -> ValueRef
     requires { ⌜ number < 256 ^ width (typeIn form) (longIn form) ⌝ }
@@ -200,7 +214,7 @@ fn value_of(form: CellForm, number: u32) -> ValueRef
         CellForm::Int32 => integer_value(number, SMALLEST),
         CellForm::ShortRef => reference_value(number),
         CellForm::LongRef => reference_value(number),
-        CellForm::Binary => ValueRef::Binary,
+        CellForm::Binary => binary_value(number),
     }
 }
 
@@ -222,4 +236,13 @@ fn reference_value(number: u32) -> ValueRef
         return ValueRef::Null;
     }
     ValueRef::Str(StringRef(number as i32))
+}
+
+fn binary_value(number: u32) -> ValueRef
+    ensures { λ r. ⌜ cellAs r ≡ binaryCell number ⌝ }
+{
+    if number < BINARY {
+        return ValueRef::Null;
+    }
+    ValueRef::Binary
 }

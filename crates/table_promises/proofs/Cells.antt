@@ -12,7 +12,7 @@ use Rattle.common.specs.Answers.{Place, gives, refused}
 use Rattle.column_type.specs.declared.form.ColumnType.{ColumnType}
 use Rattle.column_type.specs.declared.form.ColumnType.the-variants.{Int16, Int32, Str, Binary}
 use Rattle.column.specs.Check.{isBinary}
-use Rattle.column_type.specs.Cells.{width, integer, stored, unstored, integerCell, referenceCell, referenceNumber}
+use Rattle.column_type.specs.Cells.{width, integer, stored, unstored, integerCell, referenceCell, binaryCell, referenceNumber}
 use Rattle.column_type.specs.Signed.{biased, unbiased}
 use Rattle.column_type.proofs.Halves.{sub-is, near-mag, near-unbiased, biased-lt, biased-some, unbiased-biased, biased-unbiased, integer-given}
 use Rattle.column_type.proofs.Numbers.{integer-number, reference-number}
@@ -57,15 +57,16 @@ module _ (max : ℕ) (long : Bool) (at : Place) (k : ℕ) (z : ℤ) (m : ℕ) wh
       let r = reference-number long at z m e in
       rw (two, r .is, ne-eqb m 0 (λ i. let l = r .least in omega arith))
 
-binary-kinds : (at : Place) (k : ℕ) (z : ℤ) (m : ℕ) (a : Bool) → eqb k 3 ≡ a → (if a then gives 1 else refused 16 at) ≡ gives m → (3, pos 0) ≡ readsAs k z
-binary-kinds at k z m true p e = rw (eqb-true k 3 p)
-binary-kinds at k z m false p e = none e
+binary-kinds : (at : Place) (k : ℕ) (z : ℤ) (m : ℕ) (a b : Bool) → eqb k 0 ≡ a → eqb k 3 ≡ b → (if a then gives 0 else if b then gives 1 else refused 16 at) ≡ gives m → binaryCell m ≡ readsAs k z
+binary-kinds at k z m true b p q e = let i : 0 ≡ m = cc in rw (← i, p)
+binary-kinds at k z m false true p q e = let i : 1 ≡ m = cc in rw (← i, eqb-true k 3 q)
+binary-kinds at k z m false false p q e = none e
 
 pub cell-read-back : CellReadBack
 cell-read-back Int16 long at k z m e = int-kinds 32768 at k z m (eqb k 0) (eqb k 1) refl refl e
 cell-read-back Int32 long at k z m e = int-kinds 2147483648 at k z m (eqb k 0) (eqb k 1) refl refl e
 cell-read-back (Str max) long at k z m e = ref-kinds max long at k z m (eqb k 0) (eqb k 2) refl refl e
-cell-read-back Binary long at k z m e = binary-kinds at k z m (eqb k 3) refl e
+cell-read-back Binary long at k z m e = binary-kinds at k z m (eqb k 0) (eqb k 3) refl refl e
 
 -- ---- a stored number fits its width
 
@@ -85,11 +86,12 @@ pub stored-fits : (t : ColumnType) (long : Bool) (at : Place) (k : ℕ) (z : ℤ
 stored-fits Int16 long at k z m e = int-fits 32768 at z m (eqb k 0) (eqb k 1) (lit< tt) e
 stored-fits Int32 long at k z m e = int-fits 2147483648 at z m (eqb k 0) (eqb k 1) (lit< tt) e
 stored-fits (Str max) long at k z m e = ref-fits long at z m (eqb k 0) (eqb k 2) e
-stored-fits Binary long at k z m e = go (eqb k 3) e
+stored-fits Binary long at k z m e = go (eqb k 0) (eqb k 3) e
   where
-    go : (a : Bool) → (if a then gives 1 else refused 16 at) ≡ gives m → m < 65536
-    go true f = let i : 1 ≡ m = cc in omega arith
-    go false f = none f
+    go : (a b : Bool) → (if a then gives 0 else if b then gives 1 else refused 16 at) ≡ gives m → m < 65536
+    go true b f = let i : 0 ≡ m = cc in omega arith
+    go false true f = let i : 1 ≡ m = cc in omega arith
+    go false false f = none f
 
 -- ---- what was read is stored as it was
 
@@ -112,11 +114,16 @@ ref-stored false at m false q h =
     let n = eqb-false m 0 q in
     sym (reference-short false at (pos m) (le-ltb m 1 (one m n)) (le-ltb 16777215 m (omega arith)) (omega arith))
 
-pub stored-again : (t : ColumnType) (long : Bool) (at : Place) (m : ℕ) → isBinary t ≡ false → m < 256 ^ width t long → stored t long at (unstored t m .0) (unstored t m .1) ≡ gives m
+bin-stored : (at : Place) (m : ℕ) (b : Bool) → eqb m 0 ≡ b → m ≤ 1
+    → (if eqb (nullOr b (3, pos 0) .0) 0 then gives 0 else if eqb (nullOr b (3, pos 0) .0) 3 then gives 1 else refused 16 at) ≡ gives m
+bin-stored at m true q h = ap gives (sym (eqb-true m 0 q))
+bin-stored at m false q h = let p = one m (eqb-false m 0 q) in ap gives (omega arith)
+
+pub stored-again : (t : ColumnType) (long : Bool) (at : Place) (m : ℕ) → (isBinary t ≡ true → m ≤ 1) → m < 256 ^ width t long → stored t long at (unstored t m .0) (unstored t m .1) ≡ gives m
 stored-again Int16 long at m n h = int-stored 32768 at m (eqb m 0) refl h
 stored-again Int32 long at m n h = int-stored 2147483648 at m (eqb m 0) refl h
 stored-again (Str max) long at m n h = ref-stored long at m (eqb m 0) refl h
-stored-again Binary long at m n h = absurd (let z : _≡_ {A = ℕ} 0 1 = cc in omega arith)
+stored-again Binary long at m n h = bin-stored at m (eqb m 0) refl (n refl)
 
 -- ---- integers
 

@@ -1,9 +1,12 @@
 -- The points of specs/Points.antt, by computation.
 use mathlib.Core.Path.{refl}
-use Rattle.table_promises.specs.Points.{SmallestInOrder, SmallestBefore7}
+use Rattle.table_promises.specs.Points.{SmallestInOrder, SmallestBefore7, IconsRewritten}
 
 pub smallest-in-order : SmallestInOrder
 smallest-in-order = (λ out. refl, λ out. refl, λ out. refl)
 
 pub smallest-before-7 : SmallestBefore7
 smallest-before-7 = (λ out. refl, refl)
+
+pub icons-rewritten : IconsRewritten
+icons-rewritten = (refl, refl)

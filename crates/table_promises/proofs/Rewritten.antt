@@ -1,6 +1,6 @@
 -- What was read writes back. Assumes nothing.
 use mathlib.Core.Path.{_≡_, sym, _∙_, ap}
-use mathlib.Core.Bool.{Bool, false}
+use mathlib.Core.Bool.{Bool, true}
 use mathlib.Core.List.{List}
 use Prim.Native.Nat.{ℕ, _+_, _*_, _<_, _≤_}
 use native.Mathlib.Nat.{zero-mul, mul-zero, add-zero}
@@ -15,11 +15,12 @@ use Rattle.little_endian.specs.Numbers.{numberAt}
 use Rattle.little_endian.specs.Promises.{AreBytes}
 use Rattle.little_endian.proofs.Laws.{number-lt, write-back}
 use Rattle.column_type.specs.declared.form.ColumnType.{ColumnType}
+use Rattle.column_type.specs.declared.form.ColumnType.the-variants.{Int16, Int32, Str, Binary}
 use Rattle.column.specs.Check.{isBinary}
 use Rattle.column_type.specs.Cells.{width}
 use Rattle.table.specs.declared.layout.Table.{Table}
 use Rattle.table.specs.Layout.{typesOf}
-use Rattle.table.specs.Rows.{rowSize, typeAt, cellAt, rowByRow}
+use Rattle.table.specs.Rows.{rowSize, typeAt, cellStart, cellAt, rowByRow}
 use Rattle.table.specs.Writing.{Cells, cellBytes, columnBytes, tableBytes, writtenRows}
 use Rattle.cells.proofs.Strides.{next-le}
 use Rattle.table.proofs.Layouts.{types-count, columns-passed}
@@ -31,7 +32,7 @@ use Rattle.table_promises.proofs.Cells.{stored-again}
 use Rattle.table_promises.proofs.Agree.{read-is}
 use Rattle.table_promises.proofs.Pieces.{each-given, equal-pieces, column-pieces}
 
-module _ (t : Table) (s : List ℕ) (rows : ℕ) (whole : length (t .columns) ≡ 64) (bytes : AreBytes s) (plain : (c : ℕ) → isBinary (typeAt (typesOf t) c) ≡ false) (f : Found t s rows) where
+module _ (t : Table) (s : List ℕ) (rows : ℕ) (whole : length (t .columns) ≡ 64) (bytes : AreBytes s) (small : (r c : ℕ) → r < rows → c < t .count → isBinary (typeAt (typesOf t) c) ≡ true → numberAt 2 s (cellStart (typesOf t) (t .«long_string_refs») rows r c) ≤ 1) (f : Found t s rows) where
   abbrev ts : List ColumnType
   ts = typesOf t
 
@@ -47,6 +48,13 @@ module _ (t : Table) (s : List ℕ) (rows : ℕ) (whole : length (t .columns) �
   count : length ts ≡ t .count
   count = types-count t (f .sound .0) whole
 
+  -- the number of a Binary cell, which has two bytes
+  few : (t : ColumnType) (at : ℕ) → (isBinary t ≡ true → numberAt 2 s at ≤ 1) → isBinary t ≡ true → numberAt (width t long) s at ≤ 1
+  few Int16 at h e = absurd (let z : _≡_ {A = ℕ} 0 1 = cc in omega arith)
+  few Int32 at h e = absurd (let z : _≡_ {A = ℕ} 0 1 = cc in omega arith)
+  few (Str max) at h e = absurd (let z : _≡_ {A = ℕ} 0 1 = cc in omega arith)
+  few Binary at h e = h e
+
   -- a cell's bytes
   one-cell : (c r : ℕ) → c < t .count → r < rows → cellBytes (typeAt ts c) long (length ts) cells c r ≡ gives (take (width (typeAt ts c) long) (drop (rows * rowSize (take c ts) long + r * width (typeAt ts c) long) s))
   one-cell c r hc hr =
@@ -55,7 +63,7 @@ module _ (t : Table) (s : List ℕ) (rows : ℕ) (whole : length (t .columns) �
       let i : r * t .count + c ≡ c + r * t .count = omega arith in
       let k : getD (cells .kinds) (r * t .count + c) 0 ≡ g r c .0 = rw i (grid-at (λ (a b : ℕ). g a b .0) 0 (t .count) rows r c hr hc) in
       let n : getD (cells .numbers) (r * t .count + c) (pos 0) ≡ g r c .1 = rw i (grid-at (λ (a b : ℕ). g a b .1) (pos 0) (t .count) rows r c hr hc) in
-      let again = stored-again (typeAt ts c) long (cell r c) (numberAt w s at) (plain c) (number-lt w s at bytes) in
+      let again = stored-again (typeAt ts c) long (cell r c) (numberAt w s at) (few (typeAt ts c) at (small r c hr hc)) (number-lt w s at bytes) in
       let room : at + w ≤ length s = omega (arith, next-le r rows w hr, column-within ts long rows c (omega (arith, count)), holds f) in
       rw (count, k, n, again, write-back w s at bytes room)
 
@@ -75,7 +83,7 @@ module _ (t : Table) (s : List ℕ) (rows : ℕ) (whole : length (t .columns) �
       rw (all, column-pieces ts long rows s 0 (length ts) (rows * rowSize ts long) (omega arith) (omega arith), z)
 
 pub read-then-write : ReadThenWrite
-read-then-write t s rows kinds numbers out whole bytes plain e k n room =
+read-then-write t s rows kinds numbers out whole bytes small e k n room =
     let f = found t s rows e in
     let ts = typesOf t in
     let long = t .«long_string_refs» in
@@ -87,7 +95,7 @@ read-then-write t s rows kinds numbers out whole bytes plain e k n room =
     let ok = over-all (rowByRow (λ (a b : ℕ). g a b .0) rows (t .count)) kinds (lk ∙ sym k) in
     let on = over-all (rowByRow (λ (a b : ℕ). g a b .1) rows (t .count)) numbers (ln ∙ sym n) in
     let cells : Cells = record { kinds = rowByRow (λ (r c : ℕ). g r c .0) rows (t .count); numbers = rowByRow (λ (r c : ℕ). g r c .1) rows (t .count) } in
-    let again = table-again t s rows whole bytes plain f in
+    let again = table-again t s rows whole bytes small f in
     let l : length (take (rows * rowSize ts long) s) ≡ rows * rowSize ts long = length-take-le (rows * rowSize ts long) s (holds f) in
     let ek : length (cells .kinds) ≡ rows * length ts = lk ∙ ap (λ (m : ℕ). rows * m) (sym count) in
     let en : length (cells .numbers) ≡ rows * length ts = ln ∙ ap (λ (m : ℕ). rows * m) (sym count) in (

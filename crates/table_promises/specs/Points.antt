@@ -1,12 +1,14 @@
--- Points: what `write_rows` answers where two rules meet, each computed from the definition.
+-- Points: what is written where two rules meet, and where a promise ends, each computed from the definition.
 use mathlib.Core.Path.{_≡_}
 use mathlib.Core.Bool.{false}
 use mathlib.Core.List.{List, [], _∷_}
 use Prim.Native.Nat.{ℕ}
 use lib.IntN.{ℤ, pos, negsuc}
-use Rattle.common.specs.Answers.{Place, refused, nowhere, cell}
+use lib.ListN.{replicate}
+use Rattle.common.specs.Answers.{Answer, Place, gives, refused, nowhere, cell}
 use Rattle.table.specs.declared.layout.Table.{Table}
 use Rattle.table.specs.Layout.{bitfieldsOutcome}
+use Rattle.table.specs.Reading.{readRowsOutcome}
 use Rattle.table.specs.Writing.{writeRowsOutcome}
 
 -- two Int16 columns, and an Int16 and an Int32 column
@@ -33,3 +35,17 @@ abbrev pub SmallestBefore7 : Type 0
 SmallestBefore7 =
     Refused twice (1 ∷ 1 ∷ 1 ∷ 1 ∷ []) (pos 0 ∷ pos 0 ∷ pos 0 ∷ negsuc 32767 ∷ []) 17 (cell 1 1)
     × (writeRowsOutcome twice 2 (record { kinds = 1 ∷ 1 ∷ 1 ∷ 1 ∷ []; numbers = pos 0 ∷ pos 0 ∷ pos 0 ∷ negsuc 32766 ∷ [] }) [] ≡ (refused 7 nowhere, []))
+
+-- three rows of an Int16 and a nullable Binary column, read and written again
+abbrev pub rewritten : List ℕ → Answer ℕ × List ℕ
+rewritten s =
+    let t : Table = bitfieldsOutcome (pos 0x502 ∷ pos 0x1900 ∷ []) false .1 in
+    let read = readRowsOutcome t s (replicate 6 0) (replicate 6 (pos 0)) .1 in
+    writeRowsOutcome t 3 (record { kinds = read .0; numbers = read .1 }) (replicate 12 0xEE)
+
+-- E6: "Rewriting now also reproduces complete rows with Binary columns, provided every such cell holds 0 or 1": icons 1, 0 and 1 come back, and
+-- where one holds 2 it is written as 1
+abbrev pub IconsRewritten : Type 0
+IconsRewritten =
+    (rewritten (1 ∷ 128 ∷ 2 ∷ 128 ∷ 3 ∷ 128 ∷ 1 ∷ 0 ∷ 0 ∷ 0 ∷ 1 ∷ 0 ∷ []) ≡ (gives 12, 1 ∷ 128 ∷ 2 ∷ 128 ∷ 3 ∷ 128 ∷ 1 ∷ 0 ∷ 0 ∷ 0 ∷ 1 ∷ 0 ∷ []))
+    × (rewritten (1 ∷ 128 ∷ 2 ∷ 128 ∷ 3 ∷ 128 ∷ 1 ∷ 0 ∷ 0 ∷ 0 ∷ 2 ∷ 0 ∷ []) ≡ (gives 12, 1 ∷ 128 ∷ 2 ∷ 128 ∷ 3 ∷ 128 ∷ 1 ∷ 0 ∷ 0 ∷ 0 ∷ 1 ∷ 0 ∷ []))

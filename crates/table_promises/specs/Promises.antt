@@ -1,13 +1,14 @@
 -- What is promised of columns and tables: what was written reads back, and what was read writes back.
 use Prim.Native.Nat.{ℕ, _+_, _*_, _≤_, _<_}
 use mathlib.Core.Path.{_≡_}
-use mathlib.Core.Bool.{Bool, false, _&&_, _||_}
+use mathlib.Core.Bool.{Bool, true, _&&_, _||_}
 use mathlib.Core.List.{List}
 use lib.IntN.{ℤ, pos, negsuc, natAbs}
 use lib.ListN.{length, take, getD}
 use Rattle.common.specs.Choice.{if_then_else_, _=?_}
 use Rattle.common.specs.Lists.{_over_}
 use Rattle.common.specs.Answers.{Place, gives, refused, cell}
+use Rattle.little_endian.specs.Numbers.{numberAt}
 use Rattle.little_endian.specs.Promises.{AreBytes}
 use Rattle.column_type.specs.declared.form.ColumnType.{ColumnType}
 use Rattle.column_type.specs.declared.form.ColumnType.the-variants.{Int16, Int32, Str, Binary}
@@ -18,7 +19,7 @@ use Rattle.column.specs.Check.{isBinary}
 use Rattle.column_type.specs.Cells.{stored, unstored}
 use Rattle.table.specs.declared.layout.Table.{Table}
 use Rattle.table.specs.Layout.{typesOf}
-use Rattle.table.specs.Rows.{rowSize, typeAt, rowByRow}
+use Rattle.table.specs.Rows.{rowSize, typeAt, cellStart, rowByRow}
 use Rattle.table.specs.Reading.{numRowsAnswer, readCellAnswer, readRowsOutcome}
 use Rattle.table.specs.Writing.{Cells, writeRowsOutcome}
 
@@ -60,10 +61,11 @@ FortyThousand = (long : Bool) (r c : ℕ) → stored Int16 long (cell r c) 1 (po
 
 -- ---- tables; a layout has 64 places
 
--- "write_rows of what read_rows answered, at equal reference width, gives back exactly the bytes of the complete rows", without Binary columns
+-- "write_rows of what read_rows answered, at equal reference width, gives back exactly the bytes of the complete rows", "provided every
+-- such [Binary] cell holds 0 or 1" (document 02, E6)
 abbrev pub ReadThenWrite : Type 0
 ReadThenWrite = (t : Table) (s : List ℕ) (rows : ℕ) (kinds : List ℕ) (numbers : List ℤ) (out : List ℕ) → length (t .columns) ≡ 64 → AreBytes s
-    → ((c : ℕ) → isBinary (typeAt (typesOf t) c) ≡ false)
+    → ((r c : ℕ) → r < rows → c < t .count → isBinary (typeAt (typesOf t) c) ≡ true → numberAt 2 s (cellStart (typesOf t) (t .«long_string_refs») rows r c) ≤ 1)
     → numRowsAnswer t s ≡ gives rows → length kinds ≡ rows * t .count → length numbers ≡ rows * t .count
     → rows * rowSize (typesOf t) (t .«long_string_refs») ≤ length out
     → let read = readRowsOutcome t s kinds numbers in

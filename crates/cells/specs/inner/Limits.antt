@@ -12,7 +12,7 @@ limitsOf Int16 = record { kind = 1; low = negsuc 32766; high = pos 32767; plain 
 limitsOf Int32 = record { kind = 1; low = negsuc 2147483646; high = pos 2147483647; plain = 0 }
 limitsOf ShortRef = record { kind = 2; low = pos 1; high = pos 65535; plain = 0 }
 limitsOf LongRef = record { kind = 2; low = pos 1; high = pos 16777215; plain = 0 }
-limitsOf Binary = record { kind = 3; low = pos 0; high = pos 0; plain = 3 }
+limitsOf Binary = record { kind = 0; low = negsuc 2147483647; high = pos 2147483647; plain = 3 }
 
 abbrev pub inLimits : Limits → ℕ → ℤ → Bool
 inLimits l kind n = kind =? l .plain || kind =? l .kind && not (n <ℤ? l .low || l .high <ℤ? n)

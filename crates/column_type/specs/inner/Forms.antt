@@ -21,7 +21,7 @@ referenceStored long at Binary = refused 16 at
 referenceStored long at Unknown = refused 16 at
 
 abbrev pub binaryStored : Place → Cell → Answer ℕ
-binaryStored at Null = refused 16 at
+binaryStored at Null = gives 0
 binaryStored at (Int n) = refused 16 at
 binaryStored at (Str n) = refused 16 at
 binaryStored at Binary = gives 1

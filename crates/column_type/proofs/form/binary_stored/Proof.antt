@@ -5,8 +5,8 @@ use borrow.Author.Needs.{needs}
 use Rattle.column_type.proofs.form.binary_stored.Statement.{statement}
 use Rattle.column_type.proofs.form.binary_stored.Tie as tie
 
-returns : tie.Need-returns
-returns c = not-binary (cell (c .before .args .row) (c .before .args .column)) (c .before .args .cell) (c .match .keys2)
+returns-2 : tie.Need-returns-2
+returns-2 c = not-binary (cell (c .before .before .args .row) (c .before .before .args .column)) (c .before .before .args .cell) (c .before .match .keys2) (c .match2 .keys2)
 
 pub binary-stored-spec : {M : Type 1} → statement M
-binary-stored-spec = tie.close (tie.spec (λ c. search needs) returns (λ c. search needs))
+binary-stored-spec = tie.close (tie.spec (λ c. search needs) (λ c. search needs) (λ c. search needs) returns-2 (λ c. search needs))

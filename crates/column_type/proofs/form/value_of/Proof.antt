@@ -30,8 +30,9 @@ value-of-spec =
     (λ c. search needs)
     reference-value-requires-2
     (λ c. search needs)
+    (λ c κs. search needs)
     (λ c. rw (c .before .enum-told .given .1) (c .integer-value .ensures))
     (λ c. rw (c .before .enum-told2 .given .1) (c .integer-value2 .ensures))
     (λ c. rw (c .before .enum-told3 .given .1) (c .reference-value .ensures))
     (λ c. rw (c .before .enum-told4 .given .1) (c .reference-value2 .ensures))
-    (λ c. rw (c .enum-told5 .given .1)))
+    (λ c. rw (c .before .enum-told5 .given .1) (c .binary-value .ensures)))

@@ -16,6 +16,7 @@ number-spec =
     (λ c. search needs)
     (λ c κs. search needs)
     (λ c. search needs)
+    (λ c κs. search needs)
     (λ c. rw (c .before .enum-told .given .1) (c .integer-number .ensures))
     (λ c. rw (c .before .enum-told2 .given .1) (c .integer-number2 .ensures))
     (λ c. search needs)

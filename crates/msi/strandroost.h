@@ -84,7 +84,8 @@ struct strandroost_take_answer {
     int32_t reference;
 };
 
-/* A cell by its kind and number: an Int's own, a Str's reference, 0 for Null and Binary. */
+/* A cell by its kind and number: an Int's own, a Str's reference, 0 for Null and Binary. In a Binary column 0 is stored for Null and
+ * 1 for Binary, and any other number reads as Binary. */
 struct strandroost_cell_answer {
     struct strandroost_refused refused;
     uint8_t kind;

@@ -278,6 +278,19 @@ static void tables(void)
     expect("kind 4: 16 at row 0, column 1", is(written.refused, 16, 2, 0, 1));
 }
 
+static void icons(void)
+{
+    static const int32_t bits[] = {0x1900};
+    static const uint8_t before[] = {1, 0, 0, 0, 1, 0};
+    uint8_t kinds[3] = {9, 9, 9}, after[6] = {0};
+    int32_t numbers[3];
+    struct strandroost_table table = strandroost_table_from_bitfields(bits, 1, false).table;
+    struct strandroost_count done = strandroost_read_rows(table, before, sizeof before, kinds, 3, numbers, 3);
+    expect("a Binary cell of 0 is Null", done.value == 3 && kinds[0] == 3 && kinds[1] == 0 && kinds[2] == 3);
+    done = strandroost_write_rows(table, 3, kinds, 3, numbers, 3, after, sizeof after);
+    expect("and is written as it was", done.value == 6 && !memcmp(before, after, 6));
+}
+
 int main(void)
 {
     version();
@@ -290,5 +303,6 @@ int main(void)
     layouts();
     unknown_layouts();
     tables();
+    icons();
     return failed;
 }

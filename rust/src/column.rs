@@ -15,7 +15,7 @@ pub enum ColumnType {
     Int32,
     /// Texts, with the largest length in bytes, 0 for any.
     Str(u32),
-    /// A stream of the database.
+    /// A stream of the database. A cell of 0 is Null, and any other Binary.
     Binary,
 }
 

@@ -101,11 +101,11 @@ impl Table {
     /// use strandroost::{StringPool, Table, Value};
     ///
     /// let pool = StringPool::load(&[0xe4, 4, 0, 0, 2, 0, 1, 0], b"AB")?;
-    /// let table = Table::from_bitfields(&[0x2d48, 0x502], pool.long_string_refs())?;
-    /// let rows = table.rows(&[0x01, 0x00, 0x00, 0x00, 0x07, 0x80, 0x00, 0x00], &pool)?;
+    /// let table = Table::from_bitfields(&[0x2d48, 0x502, 0x1900], pool.long_string_refs())?;
+    /// let rows = table.rows(&[0x01, 0x00, 0x00, 0x00, 0x07, 0x80, 0x00, 0x00, 0x01, 0x00, 0x00, 0x00], &pool)?;
     /// assert_eq!(rows.len(), 2);
     /// let values: Vec<_> = rows.map(|row| row.into_values()).collect();
-    /// assert_eq!(values, [["AB".into(), Value::Int(7)], [Value::Null, Value::Null]]);
+    /// assert_eq!(values, [["AB".into(), Value::Int(7), Value::Binary], [Value::Null, Value::Null, Value::Null]]);
     /// # Ok::<(), strandroost::Refusal>(())
     /// ```
     pub fn rows<'a>(&'a self, stream: &[u8], pool: &'a StringPool) -> Result<Rows<'a>> {

@@ -24,7 +24,7 @@ mod internal {
 mod file_table;
 mod random;
 
-use internal::column::Column;
+use internal::column::{Column, ColumnType};
 use internal::streamname;
 use internal::stringpool::{StringPool, StringPoolBuilder, StringRef};
 use internal::table::Table;
@@ -41,7 +41,8 @@ const ROUNDS: usize = 5;
 const LONG_ENOUGH: Duration = Duration::from_millis(50);
 const TOO_LONG: Duration = Duration::from_millis(300);
 const BITS: [i32; 6] = [0x2d48, 0x502, 0x104, 0xd00, 0x1d00, 0x1502];
-const ROW_BYTES: usize = 14;
+/// An icon's name, and its stream in a nullable Binary column.
+const ICONS: [i32; 2] = [0x2d48, 0x1900];
 
 /// Nanoseconds of a call: the best of the rounds that fit into `LONG_ENOUGH` on the clock, each of so many calls. `reset` begins
 /// a round and `before` makes what a call is handed, both outside the clock.
@@ -279,16 +280,29 @@ fn bench_pools(sizes: &[usize]) {
 
 // --------------------------------------------------------------- tables
 
-fn bench_table(rows: usize) {
-    let stream: Vec<u8> = (0..rows * ROW_BYTES).map(|at| (at * 31 % 251) as u8).collect();
-    let columns = BITS.iter().map(|bits| Column::build("x").with_bitfield(*bits).expect("good bits")).collect();
+/// The bytes of a table. A Binary cell holds 1, which both sides write again.
+fn table_stream(columns: &[Column], rows: usize) -> Vec<u8> {
+    let mut stream = Vec::new();
+    for column in columns {
+        let (start, bytes) = (stream.len(), rows * column.coltype().width(false) as usize);
+        match column.coltype() {
+            ColumnType::Binary => stream.extend((0..bytes).map(|at| u8::from(at % 2 == 0))),
+            _ => stream.extend((start..start + bytes).map(|at| (at * 31 % 251) as u8)),
+        }
+    }
+    stream
+}
+
+fn bench_table(kind: &str, bits: &[i32], rows: usize) {
+    let columns: Vec<Column> = bits.iter().map(|bits| Column::build("x").with_bitfield(*bits).expect("good bits")).collect();
+    let stream = table_stream(&columns, rows);
     let table: Rc<Table> = Table::new("T".into(), columns, false);
-    let layout = Layout::from_bitfields(&BITS, false).expect("good bits");
-    let (mut kinds, mut numbers) = (vec![0u8; rows * BITS.len()], vec![0i32; rows * BITS.len()]);
+    let layout = Layout::from_bitfields(bits, false).expect("good bits");
+    let (mut kinds, mut numbers) = (vec![0u8; rows * bits.len()], vec![0i32; rows * bits.len()]);
     let times = 60_000 / rows + 1;
     let krate = timed(times, || (), |()| drop(black_box(table.read_rows(Cursor::new(&stream)).expect("good rows"))));
     let port = timed(times, || (), |()| drop(black_box(calls::read_rows(&layout, &stream, &mut kinds, &mut numbers))));
-    show("read_rows", rows, krate, port);
+    show(&format!("read_rows{kind}"), rows, krate, port);
     let cells: Vec<Vec<ValueRef>> = table.read_rows(Cursor::new(&stream)).expect("good rows");
     let mut out = vec![0u8; stream.len()];
     let krate = timed(
@@ -298,7 +312,7 @@ fn bench_table(rows: usize) {
     );
     let port =
         timed(times, || (), |()| drop(black_box(calls::write_rows(&layout, rows, &kinds, &numbers, &mut out))));
-    show("write_rows", rows, krate, port);
+    show(&format!("write_rows{kind}"), rows, krate, port);
     assert!(out == stream, "the port wrote another stream");
 }
 
@@ -325,7 +339,8 @@ fn main() {
     bench_names(", all 64 letters", &drawn_names());
     bench_pools(&[1_000, 10_000, 60_000][..sizes]);
     for rows in &[1_000, 10_000, 65_536][..sizes] {
-        bench_table(*rows);
+        bench_table("", &BITS, *rows);
+        bench_table(", icons", &ICONS, *rows);
     }
     bench_walk(34_000);
 }

@@ -351,8 +351,31 @@ fn by_document() -> LentCase {
     LentCase { kind: "by document", lines: lines.collect(), recipe: None }
 }
 
+/// A short pool of 65,537 entries, the last of them free, in rooms that are full: a take answers the free number above 65,535, and an
+/// equal one; a new entry is 11, before 4 and 6.
+fn above_short() -> LentCase {
+    const USED: usize = 65_536;
+    let pool = format!("e4040000{}00000000", "01000100".repeat(USED));
+    let answers = [
+        ("lend 0 0 0".to_string(), "ok"),
+        (format!("lend {} {} {}", USED + 1, USED + 1, USED + 1), "ok"),
+        (format!("load {pool} {}", "41".repeat(USED)), "ok 1252 0 65537"),
+        ("take 42".into(), "ok 65537"),
+        ("take 42".into(), "ok 65537"),
+        ("count 65537".into(), "ok 2"),
+        ("take 43".into(), "panic 11"),
+        ("write 0 3328 1 s65537".into(), "error 18 0 0"),
+        ("write 1 3328 1 s65537".into(), "ok 010001"),
+        ("lend -".into(), "ok"),
+        ("new 1252".into(), "ok"),
+    ];
+    let lines = answers.map(|(line, answer)| (line, Expect::Is(answer.into())));
+    LentCase { kind: "numbers above 65,535", lines: lines.to_vec(), recipe: None }
+}
+
 pub fn cases(random: &mut Random, times: usize, emit: &mut dyn FnMut(LentCase)) {
     emit(by_document());
+    emit(above_short());
     // Three texts, the middle one free and still holding a byte; and a long pool without any.
     const POOLS: [&str; 2] = ["load e4040000030002000100000002000100 414243444546", "load e4040080 -"];
     for _ in 0..times {

@@ -137,7 +137,7 @@ fn long_text(size: usize) {
 pub(crate) fn run() {
     unequal_rooms();
     many(65535, false, b'B');
-    many(65535, false, b'C');
+    many(65536, false, b'C');
     many(65535, true, b'B');
     many(65536, true, b'C');
     long_text(65535);

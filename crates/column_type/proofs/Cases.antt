@@ -10,7 +10,6 @@ use Rattle.common.specs.Answers.{Place, refused}
 use Rattle.value.proofs.Cell.{the-type}
 use Rattle.value.specs.declared.Cell.{Cell}
 use Rattle.value.specs.declared.Cell.the-variants.{Null, Int, Str, Binary, Unknown}
-use Rattle.column_type.specs.Forms.{plainInteger, plainReference, plainBinary}
 use Rattle.column_type.specs.inner.Forms.{integerStored, referenceStored, binaryStored}
 
 none4 : {n a b c d : ℕ} → (n ≡ a → ⊥) → (n ≡ b → ⊥) → (n ≡ c → ⊥) → (n ≡ d → ⊥) → OneOf (a ∷ b ∷ c ∷ d ∷ []) n → ⊥
@@ -39,25 +38,3 @@ not-binary at (Int n) k o = refl
 not-binary at (Str n) k o = refl
 not-binary at Binary k o = absurd (none4 (λ e. omega arith) (λ e. omega arith) (λ e. omega arith) (λ e. omega arith) o)
 not-binary at Unknown k o = refl
-
--- and what such a cell's number is, where nothing is judged
-pub no-integer : (half : ℕ) (v : Cell) → OneOf (0 ∷ 2 ∷ 3 ∷ 4 ∷ []) (tagOf the-type v) → 0 ≡ plainInteger half v
-no-integer half Null o = refl
-no-integer half (Int n) o = absurd (none4 (λ e. omega arith) (λ e. omega arith) (λ e. omega arith) (λ e. omega arith) o)
-no-integer half (Str n) o = refl
-no-integer half Binary o = refl
-no-integer half Unknown o = refl
-
-pub no-reference : (v : Cell) → OneOf (0 ∷ 1 ∷ 3 ∷ 4 ∷ []) (tagOf the-type v) → 0 ≡ plainReference v
-no-reference Null o = refl
-no-reference (Int n) o = refl
-no-reference (Str n) o = absurd (none4 (λ e. omega arith) (λ e. omega arith) (λ e. omega arith) (λ e. omega arith) o)
-no-reference Binary o = refl
-no-reference Unknown o = refl
-
-pub no-binary : (v : Cell) → OneOf (0 ∷ 1 ∷ 2 ∷ 4 ∷ []) (tagOf the-type v) → 0 ≡ plainBinary v
-no-binary Null o = refl
-no-binary (Int n) o = refl
-no-binary (Str n) o = refl
-no-binary Binary o = absurd (none4 (λ e. omega arith) (λ e. omega arith) (λ e. omega arith) (λ e. omega arith) o)
-no-binary Unknown o = refl

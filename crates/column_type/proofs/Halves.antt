@@ -15,7 +15,7 @@ use mir.Val.{SFits, toZ, ofZ}
 use mir.Facts.{toZ-ofZ, toZ-pos, sfits-widen}
 use Rattle.common.specs.Answers.{Place, gives, refused}
 use Rattle.column_type.specs.Cells.{integer}
-use Rattle.column_type.specs.Signed.{biased, unbiased, wrapped}
+use Rattle.column_type.specs.inner.Signed.{biased, unbiased}
 
 by-order : (a b : ℕ) (t : Bool) → ltb a b ≡ t → (a < b) ⊎ (b ≤ a)
 by-order a b true e = inl (ltb-true a b e)
@@ -104,9 +104,6 @@ module _ (half : ℕ) (at : Place) (z : ℤ) where
 
 pub bias-is : {r : ℕ} (z : ℤ) → mag z < 2147483648 → r ≡ biased 2147483648 (toZ w32 (ofZ w32 z)) → r ≡ biased 2147483648 z
 bias-is z m e = e ∙ ap (λ (y : ℤ). biased 2147483648 y) (toZ-ofZ {w = w32} {z = z} (record { sfits = m }))
-
-pub wrapped-by : {r : ℕ} (half : ℕ) (z : ℤ) → mag z < 2147483648 → r ≡ wrapped half (toZ w32 (ofZ w32 z)) → r ≡ wrapped half z
-wrapped-by half z m e = e ∙ ap (wrapped half) (toZ-ofZ {w = w32} {z = z} (record { sfits = m }))
 
 pub too-low : (half : ℕ) (z : ℤ) → half ≤ 2147483648 → biased 2147483648 z ≤ 2147483648 - half → half ≤ natAbs z
 too-low half (pos n) s h = omega arith

@@ -1,13 +1,12 @@
 -- The number of a cell that can be stored, and of one that was handed over. Assumes nothing.
 use mathlib.Core.Path.{_≡_, refl, sym, _∙_, ap}
 use mathlib.Core.Bool.{Bool, true, false, not, _||_, _&&_}
-use Prim.Native.Nat.{ℕ, suc, zero, _+_, _-_, _%_, _<_, _≤_}
-use native.Mathlib.Nat.{mod-eq-of-lt, add-mod-right}
+use Prim.Native.Nat.{ℕ, _<_, _≤_}
 use native.Mathlib.Omega.{arith}
 use borrow.Author.Tests.{ltb-false, eqb-true, leb-false}
 use lib.Dec.{eqb, ltb, leb}
-use lib.IntN.{ℤ, pos, negsuc, negℤ, natAbs, _+ℤ_}
-use lib.Signed.{ltZ, mag}
+use lib.IntN.{ℤ, pos, negsuc, natAbs, _+ℤ_}
+use lib.Signed.{ltZ}
 use Rattle.common.specs.Choice.{if_then_else_}
 use Rattle.common.specs.Answers.{Place, gives, refused}
 use Rattle.value.specs.declared.Cell.{Cell}
@@ -15,14 +14,9 @@ use Rattle.value.specs.declared.Cell.the-variants as cell
 use Rattle.value.specs.Handed.{cellOf, handedKind, handedNumber}
 use Rattle.column_type.specs.declared.form.ColumnType.{ColumnType}
 use Rattle.column_type.specs.declared.form.ColumnType.the-variants.{Int16, Int32, Str, Binary}
-use Rattle.column_type.specs.declared.form.CellForm.{CellForm}
-use Rattle.column_type.specs.declared.form.CellForm.the-variants as form
 use Rattle.column_type.specs.Cells.{stored, integer, referenceNumber}
-use Rattle.column_type.specs.Signed.{biased, wrapped}
-use Rattle.column_type.specs.Forms.{typeIn, longIn, plainInteger, plainReference, plainBinary, plainNumber}
-use Rattle.column_type.specs.inner.Forms.{integerStored, referenceStored, binaryStored}
+use Rattle.column_type.specs.inner.Signed.{biased}
 use Rattle.column_type.proofs.Halves.{add-biased, near-mag}
-use Rattle.column_type.proofs.Forms.{integer-by-kind, reference-by-kind, binary-by-kind}
 
 -- ---- what was handed over, by kind and number
 
@@ -99,46 +93,3 @@ reference-number long at z m e = go z (ltZ z (pos 1)) (ltZ (pos 16777215) z) (no
           short = λ h. rw same at (short-le long n r h);
         }
     go (negsuc n) false false false p q r f = absurd (let w : _≡_ {A = ℕ} 0 1 = cc in omega arith)
-
--- a number that fits 32 bits is not cut
-kept : (x y : ℕ) → y ≡ x + 4294967296 → x < 4294967296 → y % 4294967296 ≡ x
-kept x y e h = rw e (add-mod-right x 4294967296 ∙ mod-eq-of-lt h)
-
-wrapped-is : (half : ℕ) (z : ℤ) → half ≤ 2147483648 → mag z < half → wrapped half z ≡ biased half z
-wrapped-is half (pos n) h m = kept (n + half) _ (omega arith) (omega arith)
-wrapped-is half (negsuc n) h m = kept (half - suc n) _ (omega arith) (omega arith)
-
-int-plain : (half : ℕ) (at : Place) (v : Cell) (m : ℕ) → half ≤ 2147483648 → integerStored half at v ≡ gives m → plainInteger half v ≡ m
-int-plain half at cell.Null m h e = cc
-int-plain half at (cell.Int z) m h e = let f = integer-number half at z m e in wrapped-is half z h (near-mag half z (f .0)) ∙ f .1
-int-plain half at (cell.Str z) m h e = absurd (let y : _≡_ {A = ℕ} 0 1 = cc in omega arith)
-int-plain half at cell.Binary m h e = absurd (let y : _≡_ {A = ℕ} 0 1 = cc in omega arith)
-int-plain half at cell.Unknown m h e = absurd (let y : _≡_ {A = ℕ} 0 1 = cc in omega arith)
-
-ref-plain : (long : Bool) (at : Place) (v : Cell) (m : ℕ) → referenceStored long at v ≡ gives m → plainReference v ≡ m
-ref-plain long at cell.Null m e = cc
-ref-plain long at (cell.Int z) m e = absurd (let y : _≡_ {A = ℕ} 0 1 = cc in omega arith)
-ref-plain long at (cell.Str z) m e = let r = reference-number long at z m e in ap (wrapped 0) (r .is) ∙ kept m _ (omega arith) (omega (arith, r .most))
-ref-plain long at cell.Binary m e = absurd (let y : _≡_ {A = ℕ} 0 1 = cc in omega arith)
-ref-plain long at cell.Unknown m e = absurd (let y : _≡_ {A = ℕ} 0 1 = cc in omega arith)
-
-bin-plain : (at : Place) (v : Cell) (m : ℕ) → binaryStored at v ≡ gives m → plainBinary v ≡ m
-bin-plain at cell.Null m e = cc
-bin-plain at (cell.Int z) m e = absurd (let y : _≡_ {A = ℕ} 0 1 = cc in omega arith)
-bin-plain at (cell.Str z) m e = absurd (let y : _≡_ {A = ℕ} 0 1 = cc in omega arith)
-bin-plain at cell.Binary m e = cc
-bin-plain at cell.Unknown m e = absurd (let y : _≡_ {A = ℕ} 0 1 = cc in omega arith)
-
--- a cell that can be stored stores its plain number
-pub fine-number : (f : CellForm) (at : Place) (k : ℕ) (n : ℤ) (m : ℕ) → stored (typeIn f) (longIn f) at k n ≡ gives m → plainNumber f (cellOf k n) ≡ m
-fine-number f at k n m e = go f (handed-stored (longIn f) at (typeIn f) k n ∙ e)
-  where
-    v : Cell
-    v = cellOf k n
-
-    go : (g : CellForm) → stored (typeIn g) (longIn g) at (handedKind v) (handedNumber v) ≡ gives m → plainNumber g v ≡ m
-    go form.Int16 q = int-plain 32768 at v m (omega arith) (integer-by-kind 32768 at v ∙ q)
-    go form.Int32 q = int-plain 2147483648 at v m (omega arith) (integer-by-kind 2147483648 at v ∙ q)
-    go form.ShortRef q = ref-plain false at v m (reference-by-kind false at v ∙ q)
-    go form.LongRef q = ref-plain true at v m (reference-by-kind true at v ∙ q)
-    go form.Binary q = bin-plain at v m (binary-by-kind at v ∙ q)

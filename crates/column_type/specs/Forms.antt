@@ -5,9 +5,6 @@ use Rattle.common.specs.Choice.{if_then_else_, _<?_}
 use Rattle.common.specs.Sizes.{maxString}
 use Rattle.common.specs.Answers.{Answer, gives, refused, column, onGiven}
 use Rattle.common.specs.Refusals.{refusedBy}
-use Rattle.value.specs.declared.Cell.{Cell}
-use Rattle.value.specs.declared.Cell.the-variants.{Null, Int, Str, Binary, Unknown}
-use Rattle.column_type.specs.Signed.{wrapped}
 use Rattle.column_type.specs.declared.form.ColumnType.{ColumnType}
 use Rattle.column_type.specs.declared.form.ColumnType.the-variants as type
 use Rattle.column_type.specs.declared.form.CellForm.{CellForm}
@@ -57,32 +54,3 @@ formAs (formOf.Refused x) = refusedBy x
 abbrev pub storedAs : Stored → Answer ℕ
 storedAs (stored.Number n) = gives n
 storedAs (stored.Refused x) = refusedBy x
-
--- the number that is held for a cell that can be stored: nothing is judged; for any other cell it is still this number
-abbrev pub plainInteger : ℕ → Cell → ℕ
-plainInteger half Null = 0
-plainInteger half (Int n) = wrapped half n
-plainInteger half (Str n) = 0
-plainInteger half Binary = 0
-plainInteger half Unknown = 0
-
-abbrev pub plainReference : Cell → ℕ
-plainReference Null = 0
-plainReference (Int n) = 0
-plainReference (Str n) = wrapped 0 n
-plainReference Binary = 0
-plainReference Unknown = 0
-
-abbrev pub plainBinary : Cell → ℕ
-plainBinary Null = 0
-plainBinary (Int n) = 0
-plainBinary (Str n) = 0
-plainBinary Binary = 1
-plainBinary Unknown = 0
-
-abbrev pub plainNumber : CellForm → Cell → ℕ
-plainNumber form.Int16 v = plainInteger 32768 v
-plainNumber form.Int32 v = plainInteger 2147483648 v
-plainNumber form.ShortRef v = plainReference v
-plainNumber form.LongRef v = plainReference v
-plainNumber form.Binary v = plainBinary v

@@ -11,7 +11,7 @@ ghost use Rattle.little_endian.specs.Numbers.{numberAt};
 ghost use Rattle.value.specs.Kinds.{cellAs};
 ghost use Rattle.value.specs.Handed.{handedKind, handedNumber};
 ghost use Rattle.column_type.specs.Cells.{width, stored, unstored, integerCell, referenceCell, binaryCell};
-ghost use Rattle.column_type.specs.Forms.{typeIn, longIn, formAnswer, formAs, storedAs, plainInteger, plainReference, plainBinary, plainNumber};
+ghost use Rattle.column_type.specs.Forms.{typeIn, longIn, formAnswer, formAs, storedAs};
 ghost use Rattle.column_type.specs.inner.Forms.{integerStored, referenceStored, binaryStored};
 
 // How far the smallest integer of 32 bits lies from 0.
@@ -99,19 +99,6 @@ impl CellForm {
         }
     }
 
-    // The number that a cell stores which was judged and can be stored: nothing is judged again.
-    pub fn number(self, cell: Cell) -> u32
-        ensures { λ r. ⌜ r ≡ plainNumber self cell ⌝ }
-    {
-        match self {
-            CellForm::Int16 => integer_number(cell, 32_768),
-            CellForm::Int32 => integer_number(cell, SMALLEST),
-            CellForm::ShortRef => reference_number(cell),
-            CellForm::LongRef => reference_number(cell),
-            CellForm::Binary => binary_number(cell),
-        }
-    }
-
     // The value whose bytes start at `at`; bytes past the end count 0.
     pub fn read_value(self, stream: &[u8], at: usize) -> ValueRef
         ensures { λ r. ⌜ cellAs r ≡ unstored (typeIn self) (numberAt (width (typeIn self) (longIn self)) (now (stream .entry)) at) ⌝ }
@@ -174,34 +161,6 @@ fn binary_stored(cell: Cell, row: usize, column: usize) -> Stored
         return Stored::Refused(Refusal::CellKind { row, column });
     };
     Stored::Number(BINARY)
-}
-
-fn integer_number(cell: Cell, half: u64) -> u32
-    requires { ⌜ half ≤ 2147483648 ⌝ }
-    ensures { λ r. ⌜ r ≡ plainInteger half cell ⌝ }
-{
-    let Cell::Int(number) = cell else {
-        return NULL;
-    };
-    crate::signed::wrapped(number, half)
-}
-
-fn reference_number(cell: Cell) -> u32
-    ensures { λ r. ⌜ r ≡ plainReference cell ⌝ }
-{
-    let Cell::Str(number) = cell else {
-        return NULL;
-    };
-    crate::signed::wrapped(number, 0)
-}
-
-fn binary_number(cell: Cell) -> u32
-    ensures { λ r. ⌜ r ≡ plainBinary cell ⌝ }
-{
-    let Cell::Binary = cell else {
-        return NULL;
-    };
-    BINARY
 }
 
 // The value of a number that the cells of a form hold.

@@ -1,8 +1,7 @@
 // Signed numbers as the cells of an integer column hold them: n plus half the width's numbers.
 ghost use mathlib.Core.Path.{_≡_};
 ghost use Prim.Native.Nat.{_+_, _<_, _≤_};
-ghost use Rattle.column_type.specs.Signed.{biased, unbiased};
-ghost use Rattle.column_type.specs.Signed as signed;
+ghost use Rattle.column_type.specs.inner.Signed.{biased, unbiased};
 
 // n + 2,147,483,648
 pub(crate) fn bias(n: i32) -> u64
@@ -17,12 +16,4 @@ pub(crate) fn difference(u: u32, half: u64) -> i32
     ensures { λ r. ⌜ r ≡ unbiased half u ⌝ }
 {
     (u as i64 - half as i64) as i32
-}
-
-// n + half in 32 bits: nothing is judged.
-pub(crate) fn wrapped(n: i32, half: u64) -> u32
-    requires { ⌜ half ≤ 2147483648 ⌝ }
-    ensures { λ r. ⌜ r ≡ signed.wrapped half n ⌝ }
-{
-    ((bias(n) + (2147483648 + half)) % 4294967296) as u32
 }

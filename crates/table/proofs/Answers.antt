@@ -21,7 +21,7 @@ use Rattle.table.specs.Reading.{numRowsAnswer}
 use Rattle.table.specs.Writing.{Cells, columnBytes, tableBytes, writtenRows}
 use Rattle.table.specs.inner.Layout.{Sound}
 use Rattle.table.specs.inner.Columns.{plain}
-use Rattle.cells.proofs.Each.{refused-is}
+use Rattle.table.proofs.Each.{refused-is}
 use Rattle.table.proofs.Layouts.{judged-sound}
 use Rattle.table.proofs.Column.{table-given, table-length}
 

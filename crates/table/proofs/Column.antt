@@ -6,50 +6,37 @@ use Prim.Native.Nat.{ℕ, zero, suc, _+_, _*_, _<_, _≤_}
 use native.Mathlib.Nat.{add-mul, mul-add, mul-zero, mul-le-mul-left, not-suc-le-zero, le-of-suc-le-suc}
 use native.Mathlib.Numerals.{add-one}
 use native.Mathlib.Omega.{arith}
-use lib.IntN.{pos}
+use lib.IntN.{ℤ, pos}
 use lib.ListN.{length, getD, take, length-append}
 use lib.Seq.{take-all}
 use Rattle.common.specs.Lists.{joined, from}
 use Rattle.common.specs.Answers.{Answer, gives, refused, cell, onGiven, each, refusalOf}
 use Rattle.little_endian.specs.Numbers.{bytesOf}
 use Rattle.little_endian.proofs.Laws.{length-bytes}
-use Rattle.value.specs.Handed.{cellOf}
 use Rattle.column_type.specs.declared.form.ColumnType.{ColumnType}
 use Rattle.column_type.specs.declared.form.CellForm.{CellForm}
 use Rattle.column_type.specs.Cells.{width}
-use Rattle.column_type.specs.Forms.{formFor, plainNumber}
+use Rattle.column_type.specs.Forms.{formFor}
 use Rattle.column_type.proofs.Cells.{form-width, form-stored, form-unstored}
-use Rattle.column_type.proofs.Numbers.{fine-number}
-use Rattle.cells.specs.declared.stride.Stride.{Stride}
-use Rattle.cells.specs.Strides.{placeIn, formWidth}
-use Rattle.cells.specs.Judging.{cellNumber}
-use Rattle.cells.specs.Writing.{plainBytes, bytesFrom}
-use Rattle.cells_read.specs.Reading.{formCell}
+use Rattle.table.specs.declared.stride.Stride.{Stride}
 use Rattle.table.specs.Rows.{rowSize, typeAt, cellAt}
 use Rattle.table.specs.Writing.{Cells, cellBytes, columnBytes, tableBytes}
 use Rattle.table.specs.inner.Columns.{givenBytes, plain}
-use Rattle.cells.proofs.Each.{given-refusal, each-same, each-made, fine-first}
-use Rattle.table.proofs.Plain.{all-given, plain-length, plain-same}
+use Rattle.table.specs.inner.Strides.{formWidth, cellNumber, formBytes, formCell}
+use Rattle.table.proofs.Each.{given-refusal, each-same, each-made, fine-first}
+use Rattle.table.proofs.Plain.{all-given, plain-length}
 use Rattle.table.proofs.Layouts.{column-in}
 
--- the bytes of the cell at a row, by the form of its column
-abbrev formBytes : CellForm → Cells → Stride → ℕ → Answer (List ℕ)
-formBytes f cells run r = onGiven (cellNumber f (cells .kinds) (cells .numbers) run r) (λ n. gives (bytesOf (formWidth f) n))
-
-module _ (f : CellForm) (cells : Cells) (run : Stride) (r : ℕ) where
-  bytes-of : (a : Answer ℕ) → cellNumber f (cells .kinds) (cells .numbers) run r ≡ a → refusalOf (onGiven a (λ n. gives (bytesOf (formWidth f) n))) ≡ gives tt
-      → givenBytes (onGiven a (λ n. gives (bytesOf (formWidth f) n))) ≡ plainBytes f (cells .kinds) (cells .numbers) run r
-  bytes-of (gives n) e h = rw (fine-number f (cell r (run .column)) (getD (cells .kinds) (placeIn run r) 0) (getD (cells .numbers) (placeIn run r) (pos 0)) n e)
-  bytes-of (refused n at) e h = absurd (let y : _≡_ {A = ℕ} 0 1 = cc in omega arith)
-
-  fine-bytes : refusalOf (formBytes f cells run r) ≡ gives tt → givenBytes (formBytes f cells run r) ≡ plainBytes f (cells .kinds) (cells .numbers) run r
-  fine-bytes h = bytes-of (cellNumber f (cells .kinds) (cells .numbers) run r) refl h
-
-  fine-length : refusalOf (formBytes f cells run r) ≡ gives tt → length (givenBytes (formBytes f cells run r)) ≡ formWidth f
-  fine-length h = ap length (fine-bytes h) ∙ length-bytes (formWidth f) (plainNumber f (cellOf (getD (cells .kinds) (placeIn run r) 0) (getD (cells .numbers) (placeIn run r) (pos 0))))
+-- a cell that can be stored has as many bytes as its form is wide
+fine-length : (f : CellForm) (kinds : List ℕ) (numbers : List ℤ) (run : Stride) (r : ℕ) → refusalOf (formBytes f kinds numbers run r) ≡ gives tt → length (givenBytes (formBytes f kinds numbers run r)) ≡ formWidth f
+fine-length f kinds numbers run r h = go (cellNumber f kinds numbers run r) h
+  where
+    go : (a : Answer ℕ) → refusalOf (onGiven a (λ n. gives (bytesOf (formWidth f) n))) ≡ gives tt → length (givenBytes (onGiven a (λ n. gives (bytesOf (formWidth f) n)))) ≡ formWidth f
+    go (gives n) e = length-bytes (formWidth f) n
+    go (refused n at) e = absurd (let y : _≡_ {A = ℕ} 0 1 = cc in omega arith)
 
 -- the cells of a column are those of its form
-form-bytes : (t : ColumnType) (long : Bool) (cells : Cells) (run : Stride) (r : ℕ) → formBytes (formFor t long) cells run r ≡ cellBytes t long (run .step) cells (run .column) r
+form-bytes : (t : ColumnType) (long : Bool) (cells : Cells) (run : Stride) (r : ℕ) → formBytes (formFor t long) (cells .kinds) (cells .numbers) run r ≡ cellBytes t long (run .step) cells (run .column) r
 form-bytes t long cells run r =
     let i = r * run .step + run .column in
     rw (form-width long t, form-stored long t (cell r (run .column)) (getD (cells .kinds) i 0) (getD (cells .numbers) i (pos 0)))
@@ -63,29 +50,27 @@ module _ (ts : List ColumnType) (long : Bool) (rows : ℕ) (cells : Cells) (c : 
   abbrev form : CellForm
   form = formFor (typeAt ts c) long
 
-  each-form : each (formBytes form cells run) (from 0 rows) ≡ each (cellBytes (typeAt ts c) long (length ts) cells c) (from 0 rows)
-  each-form = each-same (formBytes form cells run) (cellBytes (typeAt ts c) long (length ts) cells c) (from 0 rows) (λ r. form-bytes (typeAt ts c) long cells run r)
+  abbrev bytesOfRow : ℕ → Answer (List ℕ)
+  bytesOfRow = formBytes form (cells .kinds) (cells .numbers) run
 
-  each-judged : refusalOf (columnBytes ts long rows cells c) ≡ refusalOf (each (formBytes form cells run) (from 0 rows))
+  each-form : each bytesOfRow (from 0 rows) ≡ each (cellBytes (typeAt ts c) long (length ts) cells c) (from 0 rows)
+  each-form = each-same bytesOfRow (cellBytes (typeAt ts c) long (length ts) cells c) (from 0 rows) (λ r. form-bytes (typeAt ts c) long cells run r)
+
+  each-judged : refusalOf (columnBytes ts long rows cells c) ≡ refusalOf (each bytesOfRow (from 0 rows))
   each-judged = given-refusal (each (cellBytes (typeAt ts c) long (length ts) cells c) (from 0 rows)) (λ bytes. joined bytes) ∙ ap refusalOf (sym each-form)
 
   pub column-judged : refusalOf (columnBytes ts long rows cells c) ≡ refusalOf (each (cellNumber form (cells .kinds) (cells .numbers) run) (from 0 rows))
   column-judged = each-judged ∙ each-made (cellNumber form (cells .kinds) (cells .numbers) run) (bytesOf (formWidth form)) (from 0 rows)
 
-  column-given : refusalOf (columnBytes ts long rows cells c) ≡ gives tt → columnBytes ts long rows cells c ≡ gives (plain (formBytes form cells run) 0 rows)
-  column-given h =
-      let e = all-given (formBytes form cells run) (from 0 rows) (sym each-judged ∙ h) in
-      rw (← each-form, e)
-
-  pub column-bytes : refusalOf (columnBytes ts long rows cells c) ≡ gives tt → givenBytes (columnBytes ts long rows cells c) ≡ bytesFrom (plainBytes form (cells .kinds) (cells .numbers) run) 0 rows
+  pub column-bytes : refusalOf (columnBytes ts long rows cells c) ≡ gives tt → givenBytes (columnBytes ts long rows cells c) ≡ plain bytesOfRow 0 rows
   column-bytes h =
-      ap givenBytes (column-given h)
-      ∙ plain-same (formBytes form cells run) (plainBytes form (cells .kinds) (cells .numbers) run) 0 rows (λ r. fine-bytes form cells run r) (sym each-judged ∙ h)
+      let e = all-given bytesOfRow (from 0 rows) (sym each-judged ∙ h) in
+      rw (← each-form, e)
 
   pub column-length : refusalOf (columnBytes ts long rows cells c) ≡ gives tt → length (givenBytes (columnBytes ts long rows cells c)) ≡ rows * width (typeAt ts c) long
   column-length h =
-      ap length (ap givenBytes (column-given h))
-      ∙ plain-length (formBytes form cells run) (formWidth form) 0 rows (λ r. fine-length form cells run r) (sym each-judged ∙ h)
+      ap length (column-bytes h)
+      ∙ plain-length bytesOfRow (formWidth form) 0 rows (λ r. fine-length form (cells .kinds) (cells .numbers) run r) (sym each-judged ∙ h)
       ∙ ap (λ (w : ℕ). rows * w) (sym (form-width long (typeAt ts c)))
 
 -- ---- all columns

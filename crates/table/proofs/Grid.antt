@@ -13,10 +13,10 @@ use Rattle.common.proofs.Parts.{over-all, exact-over}
 use Rattle.common.proofs.Writing.{Writing, begin, rooms, steps-front, done-front}
 use Rattle.column_type.proofs.Halves.{lt-or-le}
 use Rattle.table.specs.Rows.{rowByRow}
-use Rattle.cells_read.specs.Reading.{strided}
+use Rattle.table.specs.inner.Strides.{strided}
 use Rattle.table.specs.inner.Columns.{rowsFrom}
-use Rattle.cells.proofs.Each.{from-done, length-from}
-use Rattle.cells.proofs.Strides.{next-le}
+use Rattle.table.proofs.Each.{from-done, length-from}
+use Rattle.table.proofs.Strides.{next-le}
 
 -- ---- n of them from k on
 

@@ -25,7 +25,7 @@ use Rattle.table.specs.declared.layout.Table.{Table}
 use Rattle.table.specs.Layout.{columnsOf, typesOf, eachAt, soundColumn, soundColumns, onColumns}
 use Rattle.table.specs.Rows.{rowSize, typeAt}
 use Rattle.table.specs.inner.Layout.{Sound, widthsOf, startsFrom, zeros, layoutOf}
-use Rattle.cells.proofs.Each.{given-refusal, after-given, after-refused}
+use Rattle.table.proofs.Each.{given-refusal, after-given, after-refused}
 
 -- ---- columns
 

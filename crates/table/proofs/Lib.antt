@@ -1,3 +1,6 @@
+pub mod Each
+pub mod Strides
+pub mod Parts
 pub mod Plain
 pub mod Layouts
 pub mod Grid

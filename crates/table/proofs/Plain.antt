@@ -7,8 +7,7 @@ use native.Mathlib.Omega.{arith}
 use lib.ListN.{length, length-append}
 use Rattle.common.specs.Lists.{from}
 use Rattle.common.specs.Answers.{Answer, gives, refused, each, refusalOf}
-use Rattle.cells.proofs.Each.{from-next, from-done, fine-first}
-use Rattle.cells.specs.Writing.{bytesFrom}
+use Rattle.table.proofs.Each.{from-next, from-done, fine-first}
 use Rattle.table.specs.inner.Columns.{givenBytes, plain}
 
 pub bytes-given : (a : Answer (List ℕ)) → refusalOf a ≡ gives tt → a ≡ gives (givenBytes a)
@@ -35,10 +34,3 @@ module _ (f : ℕ → Answer (List ℕ)) where
   plain-length w k (suc n) h e =
       let p = fine-first f k (from (suc k) n) e in
       rw (length-append, h k (p .0), plain-length w (suc k) n h (p .1)) (omega (arith, suc-mul n w))
-
--- bytes that agree, where they are given
-pub plain-same : (f : ℕ → Answer (List ℕ)) (g : ℕ → List ℕ) (k n : ℕ) → ((x : ℕ) → refusalOf (f x) ≡ gives tt → givenBytes (f x) ≡ g x) → refusalOf (each f (from k n)) ≡ gives tt → plain f k n ≡ bytesFrom g k n
-plain-same f g k zero h e = refl
-plain-same f g k (suc n) h e =
-    let p = fine-first f k (from (suc k) n) e in
-    rw (h k (p .0), plain-same f g (suc k) n h (p .1))

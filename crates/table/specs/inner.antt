@@ -1,2 +1,3 @@
 pub mod Layout
 pub mod Columns
+pub mod Strides

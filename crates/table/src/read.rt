@@ -1,9 +1,10 @@
 // Cells read by place, and in bulk: column after column, each to every `step`-th place of the outputs.
+use crate::column_read;
 use crate::layout;
 use crate::layout::Counted;
 use crate::layout::Layout;
 use crate::layout::Table;
-use cells::Stride;
+use crate::stride::Stride;
 use common::Refusal;
 use common::sizes::MAX_BYTES;
 use common::sizes::MAX_COLUMNS;
@@ -172,7 +173,7 @@ fn read_columns(
             step: count,
             rows: some,
         };
-        cells_read::read_column(
+        column_read::read_column(
             layout::form_at(table, c),
             stream,
             start,

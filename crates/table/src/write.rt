@@ -1,8 +1,10 @@
 // Cells written in bulk: all are judged first, column by column; then each column is written to its own stretch.
+use crate::column_judge;
+use crate::column_write;
 use crate::layout;
 use crate::layout::Counted;
 use crate::layout::Table;
-use cells::Stride;
+use crate::stride::Stride;
 use common::Refusal;
 use common::sizes::MAX_COLUMNS;
 use order::Fits;
@@ -59,7 +61,7 @@ fn judge_columns(table: Table, rows: usize, kinds: &[u8], numbers: &[i32]) -> Fi
             step: count,
             rows,
         };
-        let verdict = cells::judge_column(layout::form_at(table, c), kinds, numbers, run);
+        let verdict = column_judge::judge_column(layout::form_at(table, c), kinds, numbers, run);
         if let Fits::Refused(refusal) = verdict {
             return Fits::Refused(refusal);
         }
@@ -83,7 +85,7 @@ fn write_columns(table: Table, rows: usize, kinds: &[u8], numbers: &[i32], out: 
             rows,
         };
         let form = layout::form_at(table, c);
-        cells::write_column(form, kinds, numbers, run, &mut out[at..]);
+        column_write::write_column(form, kinds, numbers, run, &mut out[at..]);
         at += rows * form.width();
         c += 1;
     }

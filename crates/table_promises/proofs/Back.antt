@@ -29,9 +29,9 @@ use Rattle.table.specs.Reading.{rowsFound, numRowsAnswer, readRowsOutcome}
 use Rattle.table.specs.Writing.{Cells, cellBytes, columnBytes, tableBytes, writeRowsOutcome}
 use Rattle.table.specs.inner.Layout.{Sound}
 use Rattle.table.specs.inner.Columns.{givenBytes, plain}
-use Rattle.cells.proofs.Each.{given-refusal, fine-first}
-use Rattle.cells.proofs.Strides.{next-le}
-use Rattle.cells_read.proofs.Parts.{part-number}
+use Rattle.table.proofs.Each.{given-refusal, fine-first}
+use Rattle.table.proofs.Strides.{next-le}
+use Rattle.table.proofs.Parts.{part-number}
 use Rattle.table.proofs.Plain.{all-given}
 use Rattle.table.proofs.Layouts.{types-count, columns-passed, judged-sound, size-le}
 use Rattle.table.proofs.Grid.{length-grid, grid-same}

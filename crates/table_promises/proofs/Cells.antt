@@ -13,7 +13,7 @@ use Rattle.column_type.specs.declared.form.ColumnType.{ColumnType}
 use Rattle.column_type.specs.declared.form.ColumnType.the-variants.{Int16, Int32, Str, Binary}
 use Rattle.column.specs.Check.{isBinary}
 use Rattle.column_type.specs.Cells.{width, integer, stored, unstored, integerCell, referenceCell, binaryCell, referenceNumber}
-use Rattle.column_type.specs.Signed.{biased, unbiased}
+use Rattle.column_type.specs.inner.Signed.{biased, unbiased}
 use Rattle.column_type.proofs.Halves.{sub-is, near-mag, near-unbiased, biased-lt, biased-some, unbiased-biased, biased-unbiased, integer-given}
 use Rattle.column_type.proofs.Numbers.{integer-number, reference-number}
 use Rattle.column_type.proofs.Cells.{reference-any, reference-short}

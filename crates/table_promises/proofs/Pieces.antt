@@ -14,7 +14,7 @@ use Rattle.column_type.specs.declared.form.ColumnType.{ColumnType}
 use Rattle.column_type.specs.Cells.{width}
 use Rattle.table.specs.Rows.{rowSize, typeAt}
 use Rattle.table.specs.inner.Columns.{givenBytes, plain}
-use Rattle.cells.proofs.Each.{fine-first}
+use Rattle.table.proofs.Each.{fine-first}
 use Rattle.table.proofs.Column.{size-next}
 
 -- each of them given, where it is within

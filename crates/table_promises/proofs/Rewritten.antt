@@ -22,7 +22,7 @@ use Rattle.table.specs.declared.layout.Table.{Table}
 use Rattle.table.specs.Layout.{typesOf}
 use Rattle.table.specs.Rows.{rowSize, typeAt, cellStart, cellAt, rowByRow}
 use Rattle.table.specs.Writing.{Cells, cellBytes, columnBytes, tableBytes, writtenRows}
-use Rattle.cells.proofs.Strides.{next-le}
+use Rattle.table.proofs.Strides.{next-le}
 use Rattle.table.proofs.Layouts.{types-count, columns-passed}
 use Rattle.table.proofs.Grid.{length-grid, grid-at}
 use Rattle.table.proofs.Column.{column-within}

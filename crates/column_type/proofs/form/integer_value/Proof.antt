@@ -1,6 +1,6 @@
 -- `form::integer_value` meets its contract. Assumes nothing.
 use Rattle.column_type.proofs.Halves.{unbiased-fits, sub-is}
-use Rattle.column_type.specs.Signed.{unbiased}
+use Rattle.column_type.specs.inner.Signed.{unbiased}
 use lib.IntN.{ℤ, pos, _-ℤ_}
 use borrow.Author.Tests.{eq-eqb, ne-eqb}
 use mir.Facts.{toZ-ofZ}

@@ -1,6 +1,6 @@
 -- `signed::difference` meets its contract, by the laws of the difference. Assumes nothing.
 use Rattle.column_type.proofs.Halves.{sub-fits, sub-back, unbiased-fits}
-use Rattle.column_type.specs.Signed.{unbiased}
+use Rattle.column_type.specs.inner.Signed.{unbiased}
 use mir.Facts.{toZ-ofZ}
 use mir.Syntax.{w32}
 use borrow.Author.Needs.{needs}

@@ -2,9 +2,8 @@
 use Rattle.table.proofs.Column.{column-within, form-cell}
 use Rattle.table.proofs.Grid.{Filled, filled-none, filled-turn, filled-done, rows-shift}
 use Rattle.table.proofs.Layouts.{types-count, start-at, width-at}
-use Rattle.cells.specs.Strides.{formWidth}
-use Rattle.cells_read.specs.Reading.{formCell}
-use Rattle.cells_read.proofs.Strided.{cells-read}
+use Rattle.table.specs.inner.Strides.{formWidth}
+use Rattle.table.specs.inner.Strides.{formCell}
 use Rattle.table.specs.inner.Columns.{rowsFrom}
 use Rattle.table.specs.Rows.{rowSize, typeAt, cellAt}
 use Rattle.table.specs.Layout.{typesOf}
@@ -86,6 +85,18 @@ add-start c = rw (start-is (c .before .before), width-is (c .before .before)) (o
 form-at-requires : tie.Need-form-at-requires Inv-loop μ-loop
 form-at-requires c κs = (c .before .before .before .before .before .before .pre .0, c .before .before .loop-test .taken)
 
+read-column-requires : tie.Need-read-column-requires Inv-loop μ-loop
+read-column-requires c κs =
+    let k = c .before .before .before .before .before in
+    let s = c .before .before .before .before .before .before .before .before .before in
+    let l = c .before .before .before .before .before .before .loop in
+    let t = s .args .table in
+    let f = formFor (typeAt (typesOf t) (l .c)) (t .«long_string_refs») in
+    let all : s .args .rows * before k + s .args .band .first * wide k + s .args .band .rows * formWidth f ≤ length (s .args .stream .now) = rw (← form-width (t .«long_string_refs») (typeAt (typesOf t) (l .c))) (omega (arith, inside k)) in
+    let some : s .args .band .rows ≤ 65536 = omega (arith, s .pre .2, s .pre .3) in
+    rw (start-is k, width-is k, c .before .before .form-at .ensures)
+    (record { handed = record { few = some; narrow = s .pre .0 .0; kinds-are = l .inv .1 .sized; numbers-are = l .inv .2 .sized; below = k .loop-test .taken }; stream = all })
+
 loop-again : tie.Need-loop-again Inv-loop μ-loop
 loop-again c =
     let k = c .before .before .before .before .before .before .before .before .before in
@@ -97,17 +108,10 @@ loop-again c =
     let first = a .band .first in
     let start = a .rows * before k + first * wide k in
     let is : (r : ℕ) → formCell f (a .stream .now) start r ≡ cellAt (typesOf t) long (a .rows) (a .stream .now) (first + r) (l .c) = λ r. form-cell (typesOf t) long (a .rows) first (a .stream .now) r (l .c) in
-    let pre = c .before .before .before .before .before .before .before .before .before .before .before .before .before .pre in
-    let w = form-width long (typeAt (typesOf t) (l .c)) in
-    let all : start + a .band .rows * formWidth f ≤ length (a .stream .now) = rw (← w) (omega (arith, inside k)) in
-    let some : a .band .rows ≤ 65536 = omega (arith, pre .2, pre .3) in
-    let fits = cells-read f (l .kinds) (l .numbers) (record { column = l .c; step = t .count; rows = a .band .rows }) (a .stream .now) start (record { handed = record { few = some; narrow = pre .0 .0; kinds-are = l .inv .1 .sized; numbers-are = l .inv .2 .sized; below = k .loop-test .taken }; stream = all }) in
-    let both = rw (start-is k, width-is k, c .before .before .before .before .before .before .form-at .ensures) at (c .before .before .before .read-column .ensures) ∙ fits in
-    let kinds = ap (λ (x : List ℕ × List ℤ). x .0) both in
-    let numbers = ap (λ (x : List ℕ × List ℤ). x .1) both in (
+    let both = rw (start-is k, width-is k, c .before .before .before .before .before .before .form-at .ensures) at (c .before .before .before .read-column .ensures) in (
       omega arith,
-      rw kinds (filled-turn 0 (λ r j. cellAt (typesOf t) long (a .rows) (a .stream .now) (first + r) j .0) (a .band .rows) (t .count) (l .c) (λ r. formCell f (a .stream .now) start r .0) (l .kinds) (k .loop-test .taken) (λ r. ap (λ (x : ℕ × ℤ). x .0) (is r)) (l .inv .1)),
-      rw numbers (filled-turn (pos 0) (λ r j. cellAt (typesOf t) long (a .rows) (a .stream .now) (first + r) j .1) (a .band .rows) (t .count) (l .c) (λ r. formCell f (a .stream .now) start r .1) (l .numbers) (k .loop-test .taken) (λ r. ap (λ (x : ℕ × ℤ). x .1) (is r)) (l .inv .2)),
+      rw (both .0) (filled-turn 0 (λ r j. cellAt (typesOf t) long (a .rows) (a .stream .now) (first + r) j .0) (a .band .rows) (t .count) (l .c) (λ r. formCell f (a .stream .now) start r .0) (l .kinds) (k .loop-test .taken) (λ r. ap (λ (x : ℕ × ℤ). x .0) (is r)) (l .inv .1)),
+      rw (both .1) (filled-turn (pos 0) (λ r j. cellAt (typesOf t) long (a .rows) (a .stream .now) (first + r) j .1) (a .band .rows) (t .count) (l .c) (λ r. formCell f (a .stream .now) start r .1) (l .numbers) (k .loop-test .taken) (λ r. ap (λ (x : ℕ × ℤ). x .1) (is r)) (l .inv .2)),
     )
 
 same-length : tie.Need-same-length Inv-loop μ-loop
@@ -144,7 +148,7 @@ read-columns-spec =
     mul-start-4
     add-start
     form-at-requires
-    (λ c κs. tt)
+    read-column-requires
     (λ c. omega arith)
     (λ c. omega arith)
     loop-again

@@ -2,10 +2,8 @@
 use Rattle.column_type.specs.Forms.{formFor}
 use Rattle.table.proofs.Column.{column-judged, table-judged}
 use Rattle.table.proofs.Layouts.{types-count}
-use Rattle.cells.proofs.Each.{each-turn, each-stop, each-end}
-use Rattle.cells.specs.Judging.{cellNumber}
-use Rattle.cells.specs.inner.Strides.{Handed}
-use Rattle.cells.proofs.Strides.{cells-judged}
+use Rattle.table.proofs.Each.{each-turn, each-stop, each-end}
+use Rattle.table.specs.inner.Strides.{cellNumber}
 use Rattle.order.specs.Order.{fitsAs}
 use Rattle.table.specs.Writing.{Cells, columnBytes, tableBytes}
 use Rattle.table.specs.Rows.{typeAt}
@@ -52,10 +50,14 @@ said c =
     let l = c .before .before .before .loop in
     let t = s .args .table in
     let f = formFor (typeAt (typesOf t) (l .c)) (t .«long_string_refs») in
-    let h : Handed (length (s .args .kinds .now)) (length (s .args .numbers .now)) (record { column = l .c; step = t .count; rows = s .args .rows }) = record { few = s .pre .1; narrow = s .pre .0 .0; kinds-are = s .pre .2; numbers-are = s .pre .3; below = c .before .before .loop-test .taken } in
-    column-judged (typesOf t) (t .«long_string_refs») (c .before .before .before .before .before .args .rows) (cellsOf (c .before .before .before .before .before)) (c .before .before .before .loop .c)
+    column-judged (typesOf t) (t .«long_string_refs») (s .args .rows) (cellsOf s) (l .c)
     ∙ ap (λ (n : ℕ). refusalOf (each (cellNumber f (s .args .kinds .now) (s .args .numbers .now) (record { column = l .c; step = n; rows = s .args .rows })) (from 0 (s .args .rows)))) (count-is s)
-    ∙ sym (rw (c .before .form-at .ensures) at (c .judge-column .ensures) ∙ cells-judged f (s .args .kinds .now) (s .args .numbers .now) (record { column = l .c; step = t .count; rows = s .args .rows }) h)
+    ∙ sym (rw (c .before .form-at .ensures) at (c .judge-column .ensures))
+
+judge-column-requires : tie.Need-judge-column-requires Inv-loop μ-loop
+judge-column-requires c κs =
+    let p = c .before .before .before .before .pre in
+    record { few = p .1; narrow = p .0 .0; kinds-are = p .2; numbers-are = p .3; below = c .before .loop-test .taken }
 
 loop-holds : tie.Need-loop-holds Inv-loop μ-loop
 loop-holds c = (omega arith, rw sub-zero)
@@ -87,7 +89,7 @@ judge-columns-spec =
     μ-loop
     loop-holds
     form-at-requires
-    (λ c κs. tt)
+    judge-column-requires
     (λ c. search needs)
     returns
     (λ c. search needs)

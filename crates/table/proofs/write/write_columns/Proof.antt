@@ -1,11 +1,9 @@
 -- `write::write_columns` meets its contract. What is still to be written, put at the place, stays the same in each turn. Assumes nothing.
-use Rattle.table.proofs.Column.{column-bytes, column-length, column-within, size-next, table-judged}
+use Rattle.table.proofs.Column.{column-judged, column-bytes, column-length, column-within, size-next, table-judged}
 use Rattle.table.proofs.Layouts.{types-count}
-use Rattle.cells.proofs.Each.{from-next, fine-first}
+use Rattle.table.proofs.Each.{from-next, fine-first}
 use Rattle.table.proofs.Plain.{plain-turn, plain-end}
-use Rattle.cells.specs.Strides.{formWidth}
-use Rattle.cells.specs.Writing.{plainBytes, bytesFrom}
-use Rattle.cells.proofs.Strides.{cells-written}
+use Rattle.table.specs.inner.Strides.{formWidth, cellNumber, formBytes}
 use Rattle.table.specs.inner.Columns.{givenBytes, plain}
 use Rattle.table.specs.Writing.{Cells, columnBytes}
 use Rattle.table.specs.Rows.{rowSize, typeAt}
@@ -80,6 +78,21 @@ part-write-column-start c = omega (arith, room (c .before))
 part-write-column-end : tie.Need-part-write-column-end Inv-loop μ-loop
 part-write-column-end c = omega (arith, room (c .before))
 
+write-column-requires : tie.Need-write-column-requires Inv-loop μ-loop
+write-column-requires c κs =
+    let s = c .before .before .before .before .before .before in
+    let a = s .args in
+    let l = c .before .before .before .loop in
+    let t = a .table in
+    let long = t .«long_string_refs» in
+    let form = formFor (typeAt (typesOf t) (l .c)) long in
+    let tail = length-tail (l .at) (l .out) in
+    let room-is : a .rows * formWidth form ≤ length (take (length (l .out) - l .at) (drop (l .at) (l .out))) = rw (← form-width long (typeAt (typesOf t) (l .c))) (omega (arith, room (c .before .before))) in
+    let fine : refusalOf (each (cellNumber form (a .kinds .now) (a .numbers .now) (record { column = l .c; step = t .count; rows = a .rows })) (from 0 (a .rows))) ≡ gives tt =
+    ap (λ (n : ℕ). refusalOf (each (cellNumber form (a .kinds .now) (a .numbers .now) (record { column = l .c; step = n; rows = a .rows })) (from 0 (a .rows)))) (sym (count-is s))
+    ∙ sym (column-judged (typesOf t) long (a .rows) (cellsOf s) (l .c)) ∙ fine-now (c .before .before) .0 in
+    rw (c .before .form-at .ensures) (record { handed = record { few = s .pre .1; narrow = s .pre .0 .0; kinds-are = s .pre .2; numbers-are = s .pre .3; below = c .before .before .loop-test .taken }; room = room-is; fine = fine })
+
 mul-at : tie.Need-mul-at Inv-loop μ-loop
 mul-at c = rw (width-is c) (omega (arith, room (c .before .before .before .before .before .before)))
 
@@ -97,18 +110,11 @@ loop-again c =
     let h = c .before .before .before .before .before .before .loop-test .taken in
     let fine = fine-now (c .before .before .before .before .before .before) in
     let form = formFor (typeAt (typesOf t) (l .c)) long in
-    let kinds = a .kinds .now in
-    let numbers = a .numbers .now in
     let part = take (length (l .out) - l .at) (drop (l .at) (l .out)) in
-    let tail = length-tail (l .at) (l .out) in
-    let wide = form-width long (typeAt (typesOf t) (l .c)) in
-    let r : a .rows * formWidth form ≤ length part = rw (← wide) (omega (arith, room (c .before .before .before .before .before .before))) in
-    let pre = c .before .before .before .before .before .before .before .before .before .before .pre in
-    let fits = cells-written form kinds numbers (record { column = l .c; step = t .count; rows = a .rows }) part (record { handed = record { few = pre .1; narrow = pre .0 .0; kinds-are = pre .2; numbers-are = pre .3; below = h }; room = r }) in
-    let is : bytesFrom (plainBytes form kinds numbers (record { column = l .c; step = t .count; rows = a .rows })) 0 (a .rows) ≡ givenBytes (f (l .c)) =
-    ap (λ (k : ℕ). bytesFrom (plainBytes form kinds numbers (record { column = l .c; step = k; rows = a .rows })) 0 (a .rows)) (sym n)
+    let is : plain (formBytes form (a .kinds .now) (a .numbers .now) (record { column = l .c; step = t .count; rows = a .rows })) 0 (a .rows) ≡ givenBytes (f (l .c)) =
+    ap (λ (k : ℕ). plain (formBytes form (a .kinds .now) (a .numbers .now) (record { column = l .c; step = k; rows = a .rows })) 0 (a .rows)) (sym n)
     ∙ sym (column-bytes (typesOf t) long (a .rows) (cellsOf (c .before .before .before .before .before .before .before .before .before .before)) (l .c) (fine .0)) in
-    let put = rw (c .before .before .before .before .before .form-at .ensures) at (c .before .before .before .write-column .ensures) ∙ fits ∙ ap (λ (x : List ℕ). x over part) is in
+    let put = rw (c .before .before .before .before .before .form-at .ensures) at (c .before .before .before .write-column .ensures) ∙ ap (λ (x : List ℕ). x over part) is in
     let size = column-length (typesOf t) long (a .rows) (cellsOf (c .before .before .before .before .before .before .before .before .before .before)) (l .c) (fine .0) in
     let next : a .rows * rowSize (take (l .c + 1) (typesOf t)) long ≡ a .rows * rowSize (take (l .c) (typesOf t)) long + a .rows * width (typeAt (typesOf t) (l .c)) long =
     ap (λ (k : ℕ). a .rows * k) (size-next (typesOf t) long (l .c) (omega arith)) ∙ mul-add (a .rows) _ _ in (
@@ -136,7 +142,7 @@ write-columns-spec =
     sub-write-column
     part-write-column-start
     part-write-column-end
-    (λ c κs. tt)
+    write-column-requires
     (λ c κs. tt)
     mul-at
     add-at

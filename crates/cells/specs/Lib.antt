@@ -1,4 +1,0 @@
-pub mod Strides
-pub mod Judging
-pub mod Writing
-pub mod inner

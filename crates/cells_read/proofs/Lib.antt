@@ -1,2 +1,0 @@
-pub mod Strided
-pub mod Parts

@@ -1,0 +1,48 @@
+// One column's cells, judged row by row.
+use crate::stride::Stride;
+use column_type::CellForm;
+use column_type::Stored;
+use order::Fits;
+use value::Cell;
+ghost use mathlib.Core.Path.{_≡_};
+ghost use lib.ListN.{length};
+ghost use Rattle.common.specs.Lists.{from};
+ghost use Rattle.common.specs.Answers.{refusalOf, each};
+ghost use Rattle.order.specs.Order.{fitsAs};
+ghost use Rattle.table.specs.inner.Strides.{Handed, cellNumber};
+
+// The first bad cell of a column. Settles the form once for all of them: each call is compiled for its form alone.
+pub(crate) fn judge_column(form: CellForm, kinds: &[u8], numbers: &[i32], run: Stride) -> Fits
+    requires { ⌜ Handed (length (now kinds)) (length (now numbers)) run ⌝ }
+    ensures { λ r. ⌜ fitsAs r ≡ refusalOf (each (cellNumber form (now (kinds .entry)) (now (numbers .entry)) run) (from 0 (run .rows))) ⌝ }
+{
+    match form {
+        CellForm::Int16 => judge_cells(CellForm::Int16, kinds, numbers, run),
+        CellForm::Int32 => judge_cells(CellForm::Int32, kinds, numbers, run),
+        CellForm::ShortRef => judge_cells(CellForm::ShortRef, kinds, numbers, run),
+        CellForm::LongRef => judge_cells(CellForm::LongRef, kinds, numbers, run),
+        CellForm::Binary => judge_cells(CellForm::Binary, kinds, numbers, run),
+    }
+}
+
+fn judge_cells(form: CellForm, kinds: &[u8], numbers: &[i32], run: Stride) -> Fits
+    requires { ⌜ Handed (length (now kinds)) (length (now numbers)) run ⌝ }
+    ensures { λ r. ⌜ fitsAs r ≡ refusalOf (each (cellNumber form (now (kinds .entry)) (now (numbers .entry)) run) (from 0 (run .rows))) ⌝ }
+{
+    let column = run.column;
+    let step = run.step;
+    let rows = run.rows;
+    let mut at = column;
+    let mut row = 0;
+    while row < rows {
+        let kind = kinds[at];
+        let number = numbers[at];
+        let judged = form.stored(Cell::new(kind, number), row, column);
+        if let Stored::Refused(refusal) = judged {
+            return Fits::Refused(refusal);
+        }
+        at += step;
+        row += 1;
+    }
+    Fits::Yes
+}

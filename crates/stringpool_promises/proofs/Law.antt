@@ -16,7 +16,7 @@ use Rattle.stringpool.specs.Refs.{onReference}
 use Rattle.stringpool.specs.Take.{sameBytes, Chooser, takenAt, counting, takeAt, takeAnswer}
 use Rattle.stringpool.specs.Drop.{lessened, dropAt, dropAnswer}
 use Rattle.stringpool.specs.Show.{orEmpty}
-use Rattle.stringpool_promises.specs.Promises.{State, Call, take-of, drop-of, Legal, AllLegal, left, after, ran, SoundState, entries, shows, countOr0, count, accepted, sameNumber, answers, one, tally, sumFor, took, gaveUp, tookRef, gaveUpRef, StaysCounted, CountsKept, Op, takes, drops, asCall, CallsKept}
+use Rattle.stringpool_promises.specs.Promises.{State, Call, take-of, drop-of, Legal, AllLegal, left, after, ran, SoundState, entries, shows, countOr0, count, accepted, sameNumber, answers, one, tally, sumFor, took, gaveUp, tookRef, gaveUpRef, StaysCounted, CountsKept, StaysSound, Op, takes, drops, asCall, CallsKept, KeptFromNew, KeptFromLoad}
 use Rattle.stringpool_promises.proofs.Choosers.{first-free-or-equal}
 use Rattle.stringpool.specs.inner.Drop.{none}
 use Rattle.stringpool.specs.declared.pool.StringPool.{StringPool}
@@ -27,7 +27,7 @@ use Rattle.stringpool.proofs.Sound.{SoundFit}
 use Rattle.common.proofs.Outcomes.{Case, no, yes, test, not-true}
 use Rattle.order.specs.Order.{addFits, textFits, dropFits}
 use Rattle.order.proofs.Laws.{ordered, add-fits, text-fits, drop-fits}
-use Rattle.stringpool_promises.proofs.Sounds.{sound-fits}
+use Rattle.stringpool_promises.proofs.Sounds.{sound-fits, fit-sound}
 use Rattle.stringpool.proofs.House.{put-same}
 use Rattle.stringpool_promises.proofs.Steps.{At, take-sum, take-length, take-count, take-text, drop-sum, drop-count, drop-text, lessened-length}
 use Rattle.stringpool_promises.proofs.Kept.{small-taken, small-dropped, small-entries, put-state}
@@ -159,11 +159,19 @@ module _ (s : State) (choose : Chooser) (t : List ℕ) where
       → entries (after s (take-of choose t)) ≡ es'
   take-made e = ap (λ (x : Answer ((ℤ × StringPool) × Rooms)). entries (takenTo s x)) e ∙ entries-is (s .pool) (length es') (s .rooms) es' refl
 
-  take-sound : SoundState s → TakeCase → SoundState (after s (take-of choose t))
-  take-sound h (no n at e) = subst (λ (x : Answer ((ℤ × StringPool) × Rooms)). SoundState (takenTo s x)) (sym e) h
-  take-sound h (yes e d) = subst (λ (x : Answer ((ℤ × StringPool) × Rooms)). SoundState (takenTo s x)) (sym e)
+  -- an accepted take was on a sound state, and leaves one
+  take-was : Took (s .pool) (s .rooms) t k → SoundState s
+  take-was d = (d .size, fit-sound (s .pool) (s .rooms) (d .fit))
+
+  take-is : takeAnswer choose (s .pool) (s .rooms) t ≡ gives ((pos (k + 1), counting (s .pool) (length es')), putBack (s .pool) (s .rooms) es')
+      → Took (s .pool) (s .rooms) t k → SoundState (after s (take-of choose t))
+  take-is e d = subst (λ (x : Answer ((ℤ × StringPool) × Rooms)). SoundState (takenTo s x)) (sym e)
       (put-state (counting (s .pool) (length es')) (s .pool) (s .rooms) es' refl (d .few) (d .fit .page) (d .fit .fit .text) (d .size) (d .fits)
       (small-taken t k (entries s) (small-entries (s .pool) (s .rooms) (d .fit))))
+
+  take-sound : SoundState s → TakeCase → SoundState (after s (take-of choose t))
+  take-sound h (no n at e) = subst (λ (x : Answer ((ℤ × StringPool) × Rooms)). SoundState (takenTo s x)) (sym e) h
+  take-sound h (yes e d) = take-is e d
 
 module _ (s : State) (r : ℤ) where
   abbrev es'' : List Entry
@@ -178,9 +186,12 @@ module _ (s : State) (r : ℤ) where
   drop-made : DidDrop (s .pool) (s .rooms) r → dropAnswer (s .pool) (s .rooms) r ≡ gives (s .pool, putBack (s .pool) (s .rooms) es'') → entries (after s (drop-of r)) ≡ es''
   drop-made d e = ap (λ (x : Answer (StringPool × Rooms)). entries (droppedTo s x)) e ∙ entries-is (s .pool) (s .pool .«num_strings») (s .rooms) es'' (count-kept d)
 
-  drop-sound : SoundState s → DropCase → SoundState (after s (drop-of r))
-  drop-sound h (no n at e) = subst (λ (x : Answer (StringPool × Rooms)). SoundState (droppedTo s x)) (sym e) h
-  drop-sound h (yes e d) =
+  -- an accepted drop was on a sound state, and leaves one
+  drop-was : DidDrop (s .pool) (s .rooms) r → SoundState s
+  drop-was d = (d .size, fit-sound (s .pool) (s .rooms) (d .fit))
+
+  drop-is : dropAnswer (s .pool) (s .rooms) r ≡ gives (s .pool, putBack (s .pool) (s .rooms) es'') → DidDrop (s .pool) (s .rooms) r → SoundState (after s (drop-of r))
+  drop-is e d =
       let n : ℕ = s .pool .«num_strings» in
       let w : Rooms = s .rooms in
       let x : Entry = getD (entries s) (placeOf r) none in
@@ -197,6 +208,10 @@ module _ (s : State) (r : ℤ) where
       subst (λ (y : Answer (StringPool × Rooms)). SoundState (droppedTo s y)) (sym e)
       (put-state (s .pool) (s .pool) w es'' (count-kept d) (d .fit .few) (d .fit .page) (d .fit .fit .text) (d .size) room
       (small-dropped (entries s) (placeOf r) (small-entries (s .pool) w (d .fit))))
+
+  drop-sound : SoundState s → DropCase → SoundState (after s (drop-of r))
+  drop-sound h (no n at e) = subst (λ (x : Answer (StringPool × Rooms)). SoundState (droppedTo s x)) (sym e) h
+  drop-sound h (yes e d) = drop-is e d
 
 at-place : (s : State) (choose : Chooser) (t : List ℕ) → Legal choose → At t (entries s) (choose t (entries s))
 at-place s choose t l = record { within = l t (entries s) .0; suits = l t (entries s) .1 }
@@ -233,9 +248,9 @@ below-end s r d = omega (arith, d .inside, d .fit .few, length-entries (s .pool 
 
 -- ---- a text
 
-text-step : (t : List ℕ) (s : State) (c : Call) → LegalCall c → SoundState s
+text-step : (t : List ℕ) (s : State) (c : Call) → LegalCall c
     → sumFor t (entries (after s c)) + one (gaveUp t s c) ≡ sumFor t (entries s) + one (took t s c)
-text-step t s (take-of choose u) l h = go (case-of s choose u l)
+text-step t s (take-of choose u) l = go (case-of s choose u l)
   where
     tallied : Answer ((ℤ × StringPool) × Rooms) → ℕ
     tallied x = one (accepted (outcome (s .rooms) x .0) && sameBytes u t)
@@ -249,7 +264,7 @@ text-step t s (take-of choose u) l h = go (case-of s choose u l)
           take-sum t u (entries s) (choose u (entries s)) (at-place s choose u l),
           ap tallied e,
         )
-text-step t s (drop-of r) l h = go (drop-case (s .pool) (s .rooms) r)
+text-step t s (drop-of r) l = go (drop-case (s .pool) (s .rooms) r)
   where
     tallied : Answer (StringPool × Rooms) → ℕ
     tallied x = one (accepted (outcome (s .rooms) x .0) && sameBytes (shows s r) t)
@@ -257,7 +272,7 @@ text-step t s (drop-of r) l h = go (drop-case (s .pool) (s .rooms) r)
     go : DropCase s r → sumFor t (entries (after s (drop-of r))) + tallied (dropAnswer (s .pool) (s .rooms) r) ≡ sumFor t (entries s) + 0
     go (no n at e) = omega (arith, ap (λ (x : Answer (StringPool × Rooms)). sumFor t (entries (droppedTo s x))) e, ap tallied e)
     go (yes e d) =
-        let shown : shows s r ≡ getD (entries s) (placeOf r) none .text = ap (shows s) (d .number) ∙ shows-at s h (placeOf r) (below-end s r d) in
+        let shown : shows s r ≡ getD (entries s) (placeOf r) none .text = ap (shows s) (d .number) ∙ shows-at s (drop-was s r d) (placeOf r) (below-end s r d) in
         omega (
           arith,
           ap (sumFor t) (drop-made s r d e),
@@ -296,9 +311,9 @@ same-next a b r e = ap (sameNumber (pos (a + 1))) e ∙ ap₂ eqb (add-one a) (a
 count-none : (s : State) → SoundState s → (r : ℤ) → ((more : ℕ → Answer ℕ) → onReference r more ≡ refused 8 nowhere) → count s r ≡ 0
 count-none s h r o = ap countOr0 (on-sound-is s h (onReference r (λ i. gives (getD (entries s) i none .count))) ∙ o (λ i. gives (getD (entries s) i none .count)))
 
-ref-step : (r : ℤ) (s : State) (c : Call) → LegalCall c → SoundState s → SoundState (after s c)
+ref-step : (r : ℤ) (s : State) (c : Call) → LegalCall c
     → count (after s c) r + one (gaveUpRef r s c) ≡ count s r + one (tookRef r s c)
-ref-step r s (take-of choose u) l h h' = go (case-of s choose u l) (numbered r)
+ref-step r s (take-of choose u) l = go (case-of s choose u l) (numbered r)
   where
     tallied : Answer ((ℤ × StringPool) × Rooms) → ℕ
     tallied x = one (answers (outcome (s .rooms) x .0) r)
@@ -306,17 +321,17 @@ ref-step r s (take-of choose u) l h h' = go (case-of s choose u l) (numbered r)
     go : TakeCase s choose u → Numbered r → count (after s (take-of choose u)) r + 0 ≡ count s r + tallied (takeAnswer choose (s .pool) (s .rooms) u)
     go (no n at e) x = omega (arith, ap (λ (y : Answer ((ℤ × StringPool) × Rooms)). count (takenTo s y) r) e, ap tallied e)
     go (yes e d) (outside o f) =
-        omega (arith, count-none s h r o, count-none (after s (take-of choose u)) h' r o, ap tallied e ∙ ap one (f (choose u (entries s)) (d .below)))
+        omega (arith, count-none s (take-was s choose u d) r o, count-none (after s (take-of choose u)) (take-is s choose u e d) r o, ap tallied e ∙ ap one (f (choose u (entries s)) (d .below)))
     go (yes e d) (place j b q) =
         omega (
           arith,
-          ap (count (after s (take-of choose u))) q ∙ count-at (after s (take-of choose u)) h' j b,
-          ap (count s) q ∙ count-at s h j b,
+          ap (count (after s (take-of choose u))) q ∙ count-at (after s (take-of choose u)) (take-is s choose u e d) j b,
+          ap (count s) q ∙ count-at s (take-was s choose u d) j b,
           ap (λ (es : List Entry). getD es j none .count) (take-made s choose u e),
           take-count u (entries s) (choose u (entries s)) j (l u (entries s) .0),
           ap tallied e ∙ ap one (same-next (choose u (entries s)) j r q),
         )
-ref-step r s (drop-of q) l h h' = go (drop-case (s .pool) (s .rooms) q) (numbered r)
+ref-step r s (drop-of q) l = go (drop-case (s .pool) (s .rooms) q) (numbered r)
   where
     tallied : Answer (StringPool × Rooms) → ℕ
     tallied x = one (accepted (outcome (s .rooms) x .0) && sameNumber q r)
@@ -326,16 +341,16 @@ ref-step r s (drop-of q) l h h' = go (drop-case (s .pool) (s .rooms) q) (numbere
     go (yes e d) (outside o f) =
         omega (
           arith,
-          count-none s h r o,
-          count-none (after s (drop-of q)) h' r o,
+          count-none s (drop-was s q d) r o,
+          count-none (after s (drop-of q)) (drop-is s q e d) r o,
           ap tallied e,
           ap (λ (y : ℤ). one (sameNumber y r)) (d .number) ∙ ap one (f (placeOf q) (below-end s q d)),
         )
     go (yes e d) (place j b i) =
         omega (
           arith,
-          ap (count (after s (drop-of q))) i ∙ count-at (after s (drop-of q)) h' j b,
-          ap (count s) i ∙ count-at s h j b,
+          ap (count (after s (drop-of q))) i ∙ count-at (after s (drop-of q)) (drop-is s q e d) j b,
+          ap (count s) i ∙ count-at s (drop-was s q d) j b,
           ap (λ (es : List Entry). getD es j none .count) (drop-made s q d e),
           drop-count (entries s) (placeOf q) j (d .inside) (d .counted),
           ap tallied e,
@@ -343,32 +358,32 @@ ref-step r s (drop-of q) l h h' = go (drop-case (s .pool) (s .rooms) q) (numbere
         )
 
 -- a reference that stays counted shows the same bytes
-keep-step : (r : ℤ) (s : State) (c : Call) → LegalCall c → SoundState s → SoundState (after s c)
+keep-step : (r : ℤ) (s : State) (c : Call) → LegalCall c
     → 1 ≤ count s r → 1 ≤ count (after s c) r → shows (after s c) r ≡ shows s r
-keep-step r s (take-of choose u) l h h' a a' = go (case-of s choose u l) (numbered r)
+keep-step r s (take-of choose u) l a a' = go (case-of s choose u l) (numbered r)
   where
     go : TakeCase s choose u → Numbered r → shows (after s (take-of choose u)) r ≡ shows s r
     go (no n at e) x = ap (λ (y : Answer ((ℤ × StringPool) × Rooms)). shows (takenTo s y) r) e
-    go (yes e d) (outside o f) = absurd (omega (arith, a, count-none s h r o))
+    go (yes e d) (outside o f) = absurd (omega (arith, a, count-none s (take-was s choose u d) r o))
     go (yes e d) (place j b q) =
-        let c : 1 ≤ getD (entries s) j none .count = omega (arith, a, ap (count s) q ∙ count-at s h j b) in
-        ap (shows (after s (take-of choose u))) q ∙ shows-at (after s (take-of choose u)) h' j b
+        let c : 1 ≤ getD (entries s) j none .count = omega (arith, a, ap (count s) q ∙ count-at s (take-was s choose u d) j b) in
+        ap (shows (after s (take-of choose u))) q ∙ shows-at (after s (take-of choose u)) (take-is s choose u e d) j b
         ∙ ap (λ (es : List Entry). getD es j none .text) (take-made s choose u e)
         ∙ take-text u (entries s) (choose u (entries s)) j (l u (entries s) .0) c
-        ∙ sym (ap (shows s) q ∙ shows-at s h j b)
-keep-step r s (drop-of q) l h h' a a' = go (drop-case (s .pool) (s .rooms) q) (numbered r)
+        ∙ sym (ap (shows s) q ∙ shows-at s (take-was s choose u d) j b)
+keep-step r s (drop-of q) l a a' = go (drop-case (s .pool) (s .rooms) q) (numbered r)
   where
     go : DropCase s q → Numbered r → shows (after s (drop-of q)) r ≡ shows s r
     go (no n at e) x = ap (λ (y : Answer (StringPool × Rooms)). shows (droppedTo s y) r) e
-    go (yes e d) (outside o f) = absurd (omega (arith, a, count-none s h r o))
+    go (yes e d) (outside o f) = absurd (omega (arith, a, count-none s (drop-was s q d) r o))
     go (yes e d) (place j b i) =
         let made : entries (after s (drop-of q)) ≡ lessenedAt (s .pool) (s .rooms) (placeOf q) = drop-made s q d e in
         let c : 1 ≤ getD (lessenedAt (s .pool) (s .rooms) (placeOf q)) j none .count =
-        omega (arith, a', ap (count (after s (drop-of q))) i ∙ count-at (after s (drop-of q)) h' j b, ap (λ (es : List Entry). getD es j none .count) made) in
-        ap (shows (after s (drop-of q))) i ∙ shows-at (after s (drop-of q)) h' j b
+        omega (arith, a', ap (count (after s (drop-of q))) i ∙ count-at (after s (drop-of q)) (drop-is s q e d) j b, ap (λ (es : List Entry). getD es j none .count) made) in
+        ap (shows (after s (drop-of q))) i ∙ shows-at (after s (drop-of q)) (drop-is s q e d) j b
         ∙ ap (λ (es : List Entry). getD es j none .text) made
         ∙ drop-text (entries s) (placeOf q) j (d .inside) c
-        ∙ sym (ap (shows s) i ∙ shows-at s h j b)
+        ∙ sym (ap (shows s) i ∙ shows-at s (drop-was s q d) j b)
 
 -- ---- any list of calls
 
@@ -380,52 +395,45 @@ legal-rest : (c : Call) (cs : List Call) → AllLegal (c ∷ cs) → AllLegal cs
 legal-rest (take-of choose t) cs l = l .1
 legal-rest (drop-of r) cs l = l
 
-next : (s : State) (c : Call) (cs : List Call) → SoundState s → AllLegal (c ∷ cs) → SoundState (after s c)
-next s c cs h l = sound-step s c (legal-first c cs l) h
+pub stays-sound : StaysSound
+stays-sound s [] l h = h
+stays-sound s (c ∷ cs) l h = stays-sound (after s c) cs (legal-rest c cs l) (sound-step s c (legal-first c cs l) h)
 
-pub sound-law : (s : State) (cs : List Call) → SoundState s → AllLegal cs → SoundState (ran s cs)
-sound-law s [] h l = h
-sound-law s (c ∷ cs) h l = sound-law (after s c) cs (next s c cs h l) (legal-rest c cs l)
-
-pub text-law : (t : List ℕ) (s : State) (cs : List Call) → SoundState s → AllLegal cs
+text-law : (t : List ℕ) (s : State) (cs : List Call) → AllLegal cs
     → sumFor t (entries (ran s cs)) + tally (gaveUp t) s cs ≡ sumFor t (entries s) + tally (took t) s cs
-text-law t s [] h l = refl
-text-law t s (c ∷ cs) h l = omega (arith, text-step t s c (legal-first c cs l) h, text-law t (after s c) cs (next s c cs h l) (legal-rest c cs l))
+text-law t s [] l = refl
+text-law t s (c ∷ cs) l = omega (arith, text-step t s c (legal-first c cs l), text-law t (after s c) cs (legal-rest c cs l))
 
-pub ref-law : (r : ℤ) (s : State) (cs : List Call) → SoundState s → AllLegal cs
+ref-law : (r : ℤ) (s : State) (cs : List Call) → AllLegal cs
     → count (ran s cs) r + tally (gaveUpRef r) s cs ≡ count s r + tally (tookRef r) s cs
-ref-law r s [] h l = refl
-ref-law r s (c ∷ cs) h l =
-    omega (arith, ref-step r s c (legal-first c cs l) h (next s c cs h l), ref-law r (after s c) cs (next s c cs h l) (legal-rest c cs l))
+ref-law r s [] l = refl
+ref-law r s (c ∷ cs) l = omega (arith, ref-step r s c (legal-first c cs l), ref-law r (after s c) cs (legal-rest c cs l))
 
 stays-now : (r : ℤ) (s : State) (cs : List Call) → StaysCounted r s cs → 1 ≤ count s r
 stays-now r s [] k = k
 stays-now r s (c ∷ cs) k = k .0
 
-pub keep-law : (r : ℤ) (s : State) (cs : List Call) → SoundState s → AllLegal cs → StaysCounted r s cs → shows (ran s cs) r ≡ shows s r
-keep-law r s [] h l k = refl
-keep-law r s (c ∷ cs) h l k =
-    keep-law r (after s c) cs (next s c cs h l) (legal-rest c cs l) (k .1)
-    ∙ keep-step r s c (legal-first c cs l) h (next s c cs h l) (k .0) (stays-now r (after s c) cs (k .1))
+keep-law : (r : ℤ) (s : State) (cs : List Call) → AllLegal cs → StaysCounted r s cs → shows (ran s cs) r ≡ shows s r
+keep-law r s [] l k = refl
+keep-law r s (c ∷ cs) l k =
+    keep-law r (after s c) cs (legal-rest c cs l) (k .1) ∙ keep-step r s c (legal-first c cs l) (k .0) (stays-now r (after s c) cs (k .1))
 
 ran-append : (s : State) (as' bs : List Call) → ran s (as' ++ bs) ≡ ran (ran s as') bs
 ran-append s [] bs = refl
 ran-append s (c ∷ as') bs = ran-append (after s c) as' bs
 
-legal-both : (as' bs : List Call) → AllLegal (as' ++ bs) → AllLegal as' × AllLegal bs
-legal-both [] bs l = (tt, l)
-legal-both (take-of choose t ∷ as') bs l = let q = legal-both as' bs (l .1) in ((l .0, q .0), q .1)
-legal-both (drop-of r ∷ as') bs l = legal-both as' bs l
+legal-later : (as' bs : List Call) → AllLegal (as' ++ bs) → AllLegal bs
+legal-later [] bs l = l
+legal-later (take-of choose t ∷ as') bs l = legal-later as' bs (l .1)
+legal-later (drop-of r ∷ as') bs l = legal-later as' bs l
 
 pub counts-kept : CountsKept
-counts-kept s cs h l = record {
-  text = λ t. text-law t s cs h l;
-  reference = λ r. ref-law r s cs h l;
+counts-kept s cs l = record {
+  text = λ t. text-law t s cs l;
+  reference = λ r. ref-law r s cs l;
   keeps = λ r earlier later e k.
-      let q : AllLegal earlier × AllLegal later = legal-both earlier later (subst AllLegal e l) in
       ap (λ (x : List Call). shows (ran s x) r) e ∙ ap (λ (x : State). shows x r) (ran-append s earlier later)
-      ∙ keep-law r (ran s earlier) later (sound-law s earlier h (q .0)) (q .1) k;
-  sound = sound-law s cs h l;
+      ∙ keep-law r (ran s earlier) later (legal-later earlier later (subst AllLegal e l)) k;
 }
 
 all-legal : (ops : List Op) → AllLegal (map asCall ops)
@@ -434,4 +442,10 @@ all-legal (takes t ∷ ops) = (first-free-or-equal, all-legal ops)
 all-legal (drops r ∷ ops) = all-legal ops
 
 pub calls-kept : CallsKept
-calls-kept s ops h = counts-kept s (map asCall ops) h (all-legal ops)
+calls-kept s ops = counts-kept s (map asCall ops) (all-legal ops)
+
+pub kept-from-new : KeptFromNew
+kept-from-new page w p ops e = calls-kept (record { pool = p; rooms = w }) ops
+
+pub kept-from-load : KeptFromLoad
+kept-from-load s d w p v ops e = calls-kept (record { pool = p; rooms = v }) ops

@@ -1,4 +1,5 @@
--- Demand 3, over any list of takes and drops, each take by any legal choice.
+-- What is promised of a pool over several calls: demand 3, over any list of takes and drops; soundness; what is written reads back; what was read is
+-- written back.
 use Prim.Native.Nat.{ℕ, zero, suc, _+_, _≤_, _<_}
 use mathlib.Core.Path.{_≡_}
 use mathlib.Core.Logic.{_↔_}
@@ -126,17 +127,18 @@ abbrev pub StaysCounted : ℤ → State → List Call → Type 0
 StaysCounted r s [] = 1 ≤ count s r
 StaysCounted r s (c ∷ cs) = (1 ≤ count s r) × StaysCounted r (after s c) cs
 
--- the three laws, and that the state stays sound: for a text, the counts of its entries and the accepted drops of it are what there was and the accepted
--- takes of it; for a reference likewise; and a reference that stays counted, from any call on, shows the same bytes
+-- Demand 3: "Begin with an empty or accepted pool and make any takes and drops, each on the state the last call left, nobody else writing its buffers.
+-- For each text, the counts of the entries showing it sum to that sum at the start, plus accepted takes of it, minus accepted drops of references that
+-- showed it just before. Each reference's count equals its starting count (0 if new) plus takes that answered it, minus accepted drops of it; while that
+-- stays at least 1, it shows the same bytes." What is taken away stands on the left; "while" is from any call on.
 pub record Demand3 (s : State) (cs : List Call) : Type 0 where
   pub text : (t : List ℕ) → sumFor t (entries (ran s cs)) + tally (gaveUp t) s cs ≡ sumFor t (entries s) + tally (took t) s cs
   pub reference : (r : ℤ) → count (ran s cs) r + tally (gaveUpRef r) s cs ≡ count s r + tally (tookRef r) s cs
   pub keeps : (r : ℤ) (earlier later : List Call) → cs ≡ earlier ++ later → StaysCounted r (ran s earlier) later → shows (ran s cs) r ≡ shows (ran s earlier) r
-  pub sound : SoundState (ran s cs)
 
--- any takes and drops on any accepted pool, for any legal choice of entry
+-- any takes and drops on any state at all, also over the size or unsound, for any legal choice of entry
 abbrev pub CountsKept : Type 0
-CountsKept = (s : State) (cs : List Call) → SoundState s → AllLegal cs → Demand3 s cs
+CountsKept = (s : State) (cs : List Call) → AllLegal cs → Demand3 s cs
 
 -- takes and drops as `incref` and `decref` answer and leave them
 pub data Op : Type 0 where
@@ -148,14 +150,27 @@ asCall (takes t) = take-of firstFreeOrEqual t
 asCall (drops r) = drop-of r
 
 abbrev pub CallsKept : Type 0
-CallsKept = (s : State) (ops : List Op) → SoundState s → Demand3 s (map asCall ops)
+CallsKept = (s : State) (ops : List Op) → Demand3 s (map asCall ops)
+
+-- "Begin with an empty .. pool", in any rooms
+abbrev pub KeptFromNew : Type 0
+KeptFromNew = (page : ℕ) (w : Rooms) (p : StringPool) (ops : List Op) → newAnswer page ≡ gives p → Demand3 (record { pool = p; rooms = w }) (map asCall ops)
+
+-- "or accepted pool": one that `load` gave, in the rooms as it left them
+abbrev pub KeptFromLoad : Type 0
+KeptFromLoad = (s d : List ℕ) (w : Rooms) (p : StringPool) (v : Rooms) (ops : List Op) → loadOutcome s d w ≡ (gives p, v)
+    → Demand3 (record { pool = p; rooms = v }) (map asCall ops)
 
 -- the way of choosing is legal
 abbrev pub ChoosesLegally : Type 0
 ChoosesLegally = Legal firstFreeOrEqual
 
--- ---- a loaded state is sound
+-- ---- what is sound stays sound
 
+abbrev pub StaysSound : Type 0
+StaysSound = (s : State) (cs : List Call) → AllLegal cs → SoundState s → SoundState (ran s cs)
+
+-- a loaded state is sound
 abbrev pub LoadsSound : Type 0
 LoadsSound = (s d : List ℕ) (w : Rooms) (p : StringPool) (v : Rooms) → AreBytes s → loadOutcome s d w ≡ (gives p, v) → SoundState (record { pool = p; rooms = v })
 

@@ -1,3 +1,4 @@
 pub mod Planning
+pub mod Promises
 pub mod Reading
 pub mod Writing

@@ -33,7 +33,7 @@ onFound (one l c wide size) more = withEntry l c (more size)
 onFound cut more = refused 2 nowhere
 onFound (ends stray) more = gives ([], [])
 
--- the lengths and the counts of the entries in the bytes that are left; each takes bytes, so as many steps as bytes suffice
+-- the lengths and the counts of the entries in the bytes that are left; as many steps as bytes suffice (Promises)
 abbrev pub entriesIn : ℕ → List ℕ → Answer (List ℕ × List ℕ)
 entriesIn zero s = refused 2 nowhere
 entriesIn (suc steps) s = onFound (entryIn s) (λ size. entriesIn steps (drop size s))

@@ -1,4 +1,5 @@
 pub mod Entries
 pub mod Plan
+pub mod Promises
 pub mod Write
 pub mod inner

@@ -1,4 +1,5 @@
 pub mod Bytes
+pub mod Calls
 pub mod Entries
 pub mod Look
 pub mod Sound

@@ -1,4 +1,4 @@
--- What the judging of a state answers, and the search of a take.
+-- What the judging of a state answers, and the search of a take: for the crate above; the desk reads stringpool/specs/Take.antt.
 use Prim.Native.Nat.{ℕ}
 use mathlib.Core.List.{List}
 use lib.ListN.{length, take}

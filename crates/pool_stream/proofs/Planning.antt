@@ -26,6 +26,7 @@ pub record PlanOf (s : List ℕ) (entries stream text n u : ℕ) : Type 0 where
   pub long : n ≤ entries
   pub stored : u ≤ stream
   pub room : u ≤ text
+  pub within : text ≤ 268435455
 
 same : {x y : ℕ × ℕ} → gives x ≡ gives y → x ≡ y
 same e = cc
@@ -40,7 +41,7 @@ plan-of s entries stream text n u e = first (streamsFit (length s) stream text) 
         let b = load-fits (x .0) (x .1) entries stream text f in
         let c = streams-fit (length s) stream text a in
         let d : x ≡ (n, u) = same q in
-        subst (λ (y : ℕ × ℕ). PlanOf s entries stream text (y .0) (y .1)) d (record { is = z; marked = c .3; small = c .0; long = b .1; stored = b .2; room = b .3 })
+        subst (λ (y : ℕ × ℕ). PlanOf s entries stream text (y .0) (y .1)) d (record { is = z; marked = c .3; small = c .0; long = b .1; stored = b .2; room = b .3; within = c .2 })
 
     next : (x : Answer (ℕ × ℕ)) → streamsFit (length s) stream text ≡ gives tt → sizesOf (poolEntries s) ≡ x → onGiven x (fitted entries stream text) ≡ gives (n, u) → PlanOf s entries stream text n u
     next (refused k at) a z q = absurd (refused-gives q)

@@ -3,20 +3,21 @@ use mathlib.Core.Path.{_≡_, refl, sym, ap, ap₂, _∙_}
 use Prim.Native.Nat.{ℕ, zero, suc, _+_, _-_, _≤_, _<_}
 use native.Mathlib.Numerals.{add-one}
 use native.Mathlib.Omega.{arith}
-use mathlib.Core.Bool.{Bool, true, false, _&&_}
-use mathlib.Core.List.{List, [], _∷_, _++_, append-assoc, append-nil}
-use lib.ListN.{length, take, getD, length-append}
+use mathlib.Core.Bool.{Bool, true, false}
+use mathlib.Core.List.{List, [], _∷_, _++_, map, append-assoc, append-nil}
+use lib.ListN.{length, take, drop, getD, length-append, length-drop}
 use lib.Seq.{take-suc, length-take-le}
-use lib.Dec.{leb}
-use borrow.Author.Tests.{lt-ltb, le-ltb, le-leb, leb-true}
+use borrow.Author.Tests.{lt-ltb, le-ltb}
 use Rattle.common.specs.Choice.{if_then_else_}
-use Rattle.common.specs.Lists.{_over_, overAt}
+use Rattle.common.specs.Lists.{_over_, overAt, joined, total}
 use Rattle.common.specs.Answers.{Answer, gives, refused, nowhere, outcome, writtenTo}
 use Rattle.common.proofs.Parts.{over-next}
 use Rattle.little_endian.specs.Numbers.{bytesOf, writeOutcome}
 use Rattle.little_endian.proofs.Laws.{written}
-use Rattle.pool_stream.specs.Entries.{shortOf, wide, entryBytes, entriesBytes}
-use Rattle.pool_stream.specs.Write.{inRooms}
+use Rattle.pool_entries.specs.Entries.{Entry, Rooms, cut}
+use Rattle.pool_entries.specs.inner.Fit.{Fit}
+use Rattle.pool_stream.specs.Entries.{shortOf, wide, entryBytes, markOf, streamBytes}
+use Rattle.pool_stream.specs.inner.Write.{entriesBytes, streamBy}
 
 -- by whether the 4-byte length follows
 abbrev By : ℕ → ℕ → Bool → List ℕ
@@ -129,17 +130,15 @@ write-done s out n left h e l =
 pub marked : (m E out o₁ o₂ : List ℕ) → length m ≡ 4 → 4 ≤ length out → o₁ ≡ overAt 0 m out → o₂ ≡ overAt 4 E o₁ → o₂ ≡ (m ++ E) over out
 marked m E out o₁ o₂ e h e₁ e₂ = e₂ ∙ ap (overAt 4 E) e₁ ∙ over-next m E out 0 4 (omega arith) e
 
--- ---- the entries that are there
+-- ---- by the entries
 
-both : (a b : Bool) → (a && b) ≡ true → (a ≡ true) × (b ≡ true)
-both true b e = (refl, e)
-both false b e = absurd (let y : _≡_ {A = ℕ} 0 1 = cc in omega arith)
+entries-same : (ls cs ts : List ℕ) → total ls ≤ length ts → entriesBytes ls cs ≡ joined (map (λ (e : Entry). entryBytes (length (e .text)) (e .count)) (cut ls cs ts))
+entries-same [] cs ts h = refl
+entries-same (l ∷ ls) [] ts h = refl
+entries-same (l ∷ ls) (c ∷ cs) ts h =
+    ap₂ (λ (i : ℕ) (y : List ℕ). entryBytes i c ++ y) (sym (length-take-le l ts (omega arith))) (entries-same ls cs (drop l ts) (simp length-drop (omega arith)))
 
-pub in-rooms : (n lengths counts : ℕ) → inRooms n lengths counts ≡ true → (n ≤ lengths) × (n ≤ counts) × (n ≤ 16777215)
-in-rooms n lengths counts e =
-    let a = both (leb n lengths && leb n counts) (leb n 16777215) e in
-    let b = both (leb n lengths) (leb n counts) (a .0) in
-    (leb-true _ _ (b .0), leb-true _ _ (b .1), leb-true _ _ (a .1))
-
-pub rooms-in : (n lengths counts : ℕ) → n ≤ lengths → n ≤ counts → n ≤ 16777215 → inRooms n lengths counts ≡ true
-rooms-in n lengths counts a b c = simp (le-leb _ _ a, le-leb _ _ b, le-leb _ _ c)
+-- where the entries fit their rooms, a stream by lengths and counts is that of the entries
+pub stream-same : (n : ℕ) (long : Bool) (codepage : ℕ) (w : Rooms) → Fit n w → streamBy (markOf long codepage) n (w .lengths) (w .counts) ≡ streamBytes n long codepage w
+stream-same n long codepage w fit =
+    ap (λ (x : List ℕ). bytesOf 4 (markOf long codepage) ++ x) (entries-same (take n (w .lengths)) (take n (w .counts)) (w .text) (fit .text))

@@ -1,11 +1,13 @@
--- The entries of a pool stream, read and written.
-use Prim.Native.Nat.{ℕ, zero, suc}
+-- A pool stream and its entries, read and written.
+use Prim.Native.Nat.{ℕ, zero, suc, _+_}
 use mathlib.Core.Bool.{Bool, true, false, _&&_}
-use mathlib.Core.List.{List, [], _∷_, _++_}
+use mathlib.Core.List.{List, [], _∷_, _++_, map}
 use lib.ListN.{length, drop}
 use Rattle.common.specs.Choice.{if_then_else_, _<?_, _≤?_, _=?_}
+use Rattle.common.specs.Lists.{joined}
 use Rattle.common.specs.Answers.{Answer, gives, refused, nowhere, onGiven}
 use Rattle.little_endian.specs.Numbers.{numberAt, bytesOf}
+use Rattle.pool_entries.specs.Entries.{Entry, Rooms, entriesOf}
 
 -- what stands at the front of the bytes that are left of a pool stream: an entry's length, its count, whether the length
 -- took the 4-byte form, and how many bytes the entry takes; a cut entry; or the end with its stray bytes
@@ -53,8 +55,10 @@ wide size count = shortOf size =? 0 && 0 <? count
 unfoldable pub entryBytes : ℕ → ℕ → List ℕ
 entryBytes size count = bytesOf 2 (shortOf size) ++ bytesOf 2 count ++ (if wide size count then bytesOf 4 size else [])
 
--- "Then entries", one after another
-abbrev pub entriesBytes : List ℕ → List ℕ → List ℕ
-entriesBytes [] cs = []
-entriesBytes (l ∷ ls) [] = []
-entriesBytes (l ∷ ls) (c ∷ cs) = entryBytes l c ++ entriesBytes ls cs
+-- "Four bytes: bit 31 says long references (3 bytes), the rest is the code page."
+abbrev pub markOf : Bool → ℕ → ℕ
+markOf long codepage = codepage + (if long then 2147483648 else 0)
+
+-- the mark, "then entries"
+abbrev pub streamBytes : ℕ → Bool → ℕ → Rooms → List ℕ
+streamBytes n long codepage w = bytesOf 4 (markOf long codepage) ++ joined (map (λ (e : Entry). entryBytes (length (e .text)) (e .count)) (entriesOf n w))

@@ -1,4 +1,4 @@
--- What a load is to do, by the pool stream and by sizes alone.
+-- What a load is to do, by the pool stream and by sizes alone: for the crate above; the desk reads stringpool/specs/Load.antt.
 use Prim.Native.Nat.{ℕ, min}
 use mathlib.Core.List.{List, []}
 use lib.ListN.{length}

@@ -8,5 +8,4 @@ mod write;
 pub use crate::load::entry_room;
 pub use crate::load::load_entries;
 pub use crate::plan::LoadPlan;
-pub use crate::write::StreamWritten;
 pub use crate::write::write_stream;

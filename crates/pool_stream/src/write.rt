@@ -3,69 +3,74 @@ use crate::entry::entry_size;
 use crate::entry::short_of;
 use crate::entry::wide;
 use common::Refusal;
-use common::sizes::MAX_ENTRIES;
+use little_endian::Written;
 use little_endian::write;
+use pool_entries::State;
+use pool_entries::judge;
 ghost use mathlib.Core.Path.{_≡_};
 ghost use Prim.Native.Nat.{_+_, _*_, _≤_};
 ghost use lib.ListN.{length, take};
 ghost use Rattle.common.specs.Lists.{overAt};
 ghost use Rattle.common.specs.Answers.{outcome, writtenTo};
-ghost use Rattle.pool_stream.specs.Entries.{entryBytes, entriesBytes};
-ghost use Rattle.pool_stream.specs.Write.{inRooms, streamBytes, streamOutcome, streamAs};
+ghost use Rattle.little_endian.specs.Numbers.{writtenAs};
+ghost use Rattle.pool_entries.specs.Entries.{rooms};
+ghost use Rattle.pool_stream.specs.Entries.{entryBytes, markOf};
+ghost use Rattle.pool_stream.specs.Write.{streamOutcome};
+ghost use Rattle.pool_stream.specs.inner.Write.{entriesBytes, streamBy};
 
-pub enum StreamWritten {
-    Bytes(usize),
-    Refused(Refusal),
-}
-
-// Writes the mark and n entries.
+// Judges a state, and writes its pool stream: the mark and num_strings entries.
 pub fn write_stream(
-    mark: u32,
-    n: usize,
+    num_strings: usize,
+    long_string_refs: bool,
+    codepage: u32,
     lengths: &[u32],
     counts: &[u16],
+    text: &[u8],
     out: &mut [u8],
-) -> StreamWritten
-    ensures { λ a. ⌜ (streamAs a, now (out .exit)) ≡ streamOutcome mark n (now (lengths .entry)) (now (counts .entry)) (now (out .entry)) ⌝ }
+) -> Written
+    ensures { λ a. ⌜ (writtenAs a, now (out .exit)) ≡ streamOutcome «num_strings» «long_string_refs» codepage
+        (rooms (now (lengths .entry)) (now (counts .entry)) (now (text .entry))) (now (out .entry)) ⌝ }
 {
-    if in_rooms(n, lengths.len(), counts.len()) {
-        return write_fitting(mark, n, lengths, counts, out);
+    let state = judge(num_strings, codepage, lengths, counts, text);
+    match state {
+        State::OverSize => Written::Refused(Refusal::OverSize),
+        State::Unsound => Written::Refused(Refusal::Unsound),
+        State::Sound(_) => {
+            write_fitting(
+                mark(long_string_refs, codepage),
+                num_strings,
+                lengths,
+                counts,
+                out,
+            )
+        }
     }
-    StreamWritten::Refused(Refusal::Unsound)
 }
 
-// Whether n entries are there, and no more than there may be.
-fn in_rooms(n: usize, lengths: usize, counts: usize) -> bool
-    ensures { λ r. ⌜ r ≡ inRooms n lengths counts ⌝ }
+// The code page, with bit 31 for long references.
+fn mark(long: bool, codepage: u32) -> u32
+    requires { ⌜ codepage ≤ 2147483647 ⌝ }
+    ensures { λ r. ⌜ r ≡ markOf long codepage ⌝ }
 {
-    if n > lengths {
-        return false;
+    if long {
+        return codepage + 0x8000_0000;
     }
-    if n > counts {
-        return false;
-    }
-    n <= MAX_ENTRIES
+    codepage
 }
 
-// The same where the entries are there.
-fn write_fitting(
-    mark: u32,
-    n: usize,
-    lengths: &[u32],
-    counts: &[u16],
-    out: &mut [u8],
-) -> StreamWritten
+// Writes a mark and n entries, which are there.
+fn write_fitting(mark: u32, n: usize, lengths: &[u32], counts: &[u16], out: &mut [u8]) -> Written
     requires { ⌜ (n ≤ length (now lengths)) × (n ≤ length (now counts)) × (n ≤ 16777215) ⌝ }
-    ensures { λ a. ⌜ (streamAs a, now (out .exit)) ≡ outcome (now (out .entry))
-        (writtenTo (now (out .entry)) (streamBytes mark n (now (lengths .entry)) (now (counts .entry)))) ⌝ }
+    ensures { λ a. ⌜ (writtenAs a, now (out .exit)) ≡ outcome (now (out .entry))
+        (writtenTo (now (out .entry)) (streamBy mark n (now (lengths .entry)) (now (counts .entry)))) ⌝ }
 {
     let size = 4 + entries_size(n, lengths, counts);
     if out.len() < size {
-        return StreamWritten::Refused(Refusal::OutputRoom);
+        return Written::Refused(Refusal::OutputRoom);
     }
     write(mark, 4, out, 0);
     write_entries(n, lengths, counts, out);
-    StreamWritten::Bytes(size)
+    Written::Bytes(size)
 }
 
 // How many bytes n entries take.

@@ -3,7 +3,7 @@ use mathlib.Core.Path.{_≡_, sym, ap, ap₂, subst, _∙_}
 use Prim.Native.Nat.{ℕ, _+_, _-_, _≤_, _<_}
 use native.Mathlib.Omega.{arith}
 use mathlib.Core.List.{List, []}
-use lib.ListN.{take, getD, set}
+use lib.ListN.{length, take, getD, set}
 use lib.IntN.{ℤ}
 use lib.Dec.{leb}
 use borrow.Author.Tests.{le-leb, lt-leb}
@@ -106,13 +106,13 @@ module _ (p : StringPool) (r : ℤ) (w : Rooms) (fit : Fit (p .«num_strings») 
         rw (sym (count-in n [] (w .counts) [] (k .0) h))
         (record { is = done _ (down-more n w fit (k .0) h (omega (arith, z, count-in n [] (w .counts) [] (k .0) h))); ready = (omega (arith, few, h), omega (arith, fit .counts, h)) })
 
-    pub drop-last : n ≤ 16777215 → countAt n (w .counts) (k .0) ≤ 1
+    pub drop-last : n ≤ 16777215 → length (w .text) ≤ 268435455 → countAt n (w .counts) (k .0) ≤ 1
         → Drops p r w (Put (k .0) (total (take (k .0) (w .lengths))) (getD (w .lengths) (k .0) 0) (total (take n (w .lengths))) 0)
-    drop-last few y =
+    drop-last few size y =
         let inside : total (take (k .0) (w .lengths)) + getD (w .lengths) (k .0) 0 ≤ total (take n (w .lengths)) = total-in (w .lengths) (k .0) n h (fit .lengths) in
         record {
           is = done _ (sym (put-one n w fit (k .0) h none (omega (arith, fit .text))) ∙ down-last n w fit (k .0) h (omega (arith, y, count-in n [] (w .counts) [] (k .0) h)));
-          ready = (omega (arith, few, h), omega (arith, fit .lengths, h), omega (arith, fit .counts, h), omega arith, inside, fit .text, omega (arith, fit .text));
+          ready = (omega (arith, few, h), omega (arith, fit .lengths, h), omega (arith, fit .counts, h), omega arith, inside, fit .text, omega (arith, fit .text), size);
         }
 
 -- on a pool that is judged

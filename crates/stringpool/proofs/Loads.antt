@@ -19,8 +19,8 @@ use Rattle.stringpool.specs.Pool.{Rooms, rooms, entryRoom}
 use Rattle.stringpool.specs.Load.{poolEntries, poolFrom, loadEntries, loadAnswer, loadOutcome}
 use Rattle.stringpool.specs.declared.pool.StringPool.{StringPool}
 use Rattle.stringpool.proofs.Entries.{rooms-eq}
-use Rattle.text_room.specs.Texts.{copiedIn}
-use Rattle.text_room.proofs.Splice.{copied-fits}
+use Rattle.text_room.specs.Texts.{copyOutcome}
+use Rattle.text_room.proofs.Splice.{copied}
 
 same-number : {m n : ℕ} {p q : Place} → _≡_ {A = Answer (ℕ × ℕ)} (refused m p) (refused n q) → _≡_ {A = Answer StringPool} (refused m p) (refused n q)
 same-number e = cc
@@ -84,9 +84,11 @@ module _ (s d : List ℕ) (w : Rooms) where
     stored = of .stored
 
     -- the rooms after a load, by the stores
-    pub loaded : (p : StringPool) → p ≡ poolFrom s n → (ts : List ℕ) → ts ≡ copiedIn (w .text) 0 (take u d) → (gives p, rooms ls cs ts) ≡ loadOutcome s d w
-    loaded p ep ts et =
+    pub loaded : (p : StringPool) → p ≡ poolFrom s n → (a : Answer ℕ) (ts : List ℕ) → (a, ts) ≡ copyOutcome (take u d) (w .text) → (gives p, rooms ls cs ts) ≡ loadOutcome s d w
+    loaded p ep a ts et =
         let f = e ∙ ap Filled plan in
+        let long : length (take u d) ≡ u = length-take-le u d (of .stored) in
+        let copy : ts ≡ take u d over w .text = ap (λ (x : Answer ℕ × List ℕ). x .1) (et ∙ copied (take u d) (w .text) (omega (arith, of .room, of .within)) (omega (arith, of .room))) in
         ap₂ (λ (q : StringPool) (r : Rooms). (gives q, r)) ep
-        (rooms-eq (ap (λ (o : _). o .1 .0) f) (ap (λ (o : _). o .1 .1) f) (et ∙ copied-fits (w .text) 0 (take u d) (omega (arith, length-take-le u d (of .stored), of .room))))
+        (rooms-eq (ap (λ (o : _). o .1 .0) f) (ap (λ (o : _). o .1 .1) f) copy)
         ∙ sym (ap (outcome w) (planned ∙ ap (λ (a : Answer (ℕ × ℕ)). onGiven a Ready) plan))

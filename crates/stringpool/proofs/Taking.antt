@@ -112,12 +112,12 @@ module _ (p : StringPool) (w : Rooms) (fit : Fit (p .«num_strings») w) (t : Li
           let f : ltb (length (w .text)) all ≡ true = lt-ltb (length (w .text)) all (omega (arith, length-texts-at n w fit (k .0) hk (entry t 1))) in
           refusing TextRoom (sym (ap (outcome w) (at-entry (entry t 1) (counted-free z) ∙ ap (AtEntry (entry t 1)) f)))
 
-      pub free-done : n ≤ 16777215 → length t ≤ 268435455 → total (take n (w .lengths)) - getD (w .lengths) (k .0) 0 + length t ≤ length (w .text)
+      pub free-done : n ≤ 16777215 → length t ≤ 268435455 → length (w .text) ≤ 268435455 → total (take n (w .lengths)) - getD (w .lengths) (k .0) 0 + length t ≤ length (w .text)
           → At p w t (k .0) (Put (k .0) (total (take (k .0) (w .lengths))) (getD (w .lengths) (k .0) 0) (total (take n (w .lengths))) 1)
-      free-done m s h =
+      free-done m s size h =
           record {
             is = same-pool ∙ done-at (entry t 1) (counted-free z) (omega (arith, length-texts-at n w fit (k .0) hk (entry t 1))) _ (sym (put-one n w fit (k .0) hk (entry t 1) h));
-            ready = (omega arith, omega (arith, fit .lengths), omega (arith, fit .counts), omega arith, total-in (w .lengths) (k .0) n hk (fit .lengths), fit .text, h);
+            ready = (omega arith, omega (arith, fit .lengths), omega (arith, fit .counts), omega arith, total-in (w .lengths) (k .0) n hk (fit .lengths), fit .text, h, size);
           }
 
   -- a new entry
@@ -140,8 +140,8 @@ module _ (p : StringPool) (w : Rooms) (fit : Fit (p .«num_strings») w) (t : Li
   pub added-refused : (x : Refusal) → refusedBy x ≡ Fitting → At p w t n (Refused x)
   added-refused x e = refusing x (sym (ap (outcome w) (adding (refusedBy x) e)))
 
-  pub added-done : gives tt ≡ Fitting → length t ≤ 268435455 → At p w t n (Put n (total (take n (w .lengths))) 0 (total (take n (w .lengths))) 1)
-  added-done e s =
+  pub added-done : gives tt ≡ Fitting → length t ≤ 268435455 → length (w .text) ≤ 268435455 → At p w t n (Put n (total (take n (w .lengths))) 0 (total (take n (w .lengths))) 1)
+  added-done e s size =
       let f = add-fits (p .«long_string_refs») n (entryRoom w) (total (take n (w .lengths)) + length t) (length (w .text)) (sym e) in
       let grown : n + 1 ≡ length (es ++ (entry t 1 ∷ [])) = sym (length-append es (entry t 1 ∷ []) ∙ ap (λ (i : ℕ). i + 1) known) in
       record {
@@ -150,7 +150,7 @@ module _ (p : StringPool) (w : Rooms) (fit : Fit (p .«num_strings») w) (t : Li
             ∙ ap (λ (y : Rooms). (gives (pos (n + 1), counting p (n + 1)), y)) (sym (put-added n w fit (entry t 1) (omega (arith, f .1)) (omega (arith, f .1))) ∙ put-same p w (es ++ (entry t 1 ∷ [])))
             ∙ ap (λ (i : ℕ). (gives (pos (n + 1), counting p i), house.putBack p w (es ++ (entry t 1 ∷ [])))) grown
             ∙ sym (ap (outcome w) (adding (gives tt) e));
-        ready = (omega (arith, f .0), omega (arith, f .1), omega (arith, f .1), omega arith, omega arith, fit .text, omega (arith, f .2));
+        ready = (omega (arith, f .0), omega (arith, f .1), omega (arith, f .1), omega arith, omega arith, fit .text, omega (arith, f .2), size);
       }
 
 -- the same by the numbers that were handed over
@@ -161,7 +161,7 @@ module _ (p : StringPool) (k : EntryPlace) (start old used room size : ℕ) (w :
 
   pub free-planned : used - old + size ≤ room → At p w t (k .0) (Put (k .0) start old used 1)
   free-planned h =
-      rw (f .begins, f .long, q .sum) (free-done p w (q .fit) t k (f .within) (f .free) (q .few) (q .small) (omega (arith, q .sum, q .text, q .new, f .long, h)))
+      rw (f .begins, f .long, q .sum) (free-done p w (q .fit) t k (f .within) (f .free) (q .few) (q .small) (q .large) (omega (arith, q .sum, q .text, q .new, f .long, h)))
 
 module _ (p : StringPool) (entries used room size : ℕ) (w : Rooms) (t : List ℕ) (q : Known p w t used room size) (r : entries ≡ entryRoom w) where
   -- the entries, the sizes and the room, by other names
@@ -174,7 +174,7 @@ module _ (p : StringPool) (entries used room size : ℕ) (w : Rooms) (t : List �
   not-added x e = added-refused p w (q .fit) t x (e ∙ fitting)
 
   pub added : gives tt ≡ addFits (p .«long_string_refs») (p .«num_strings») entries (used + size) room → At p w t (p .«num_strings») (Put (p .«num_strings») used 0 used 1)
-  added e = rw (q .sum) (added-done p w (q .fit) t (e ∙ fitting) (q .small))
+  added e = rw (q .sum) (added-done p w (q .fit) t (e ∙ fitting) (q .small) (q .large))
 
 -- the sizes and the soundness judged, and then the take
 on-take : (p : StringPool) (w : Rooms) (t : List ℕ) → takeAnswer firstFreeOrEqual p w t ≡ byJudge (judgeTake p w t) (takeAt p w t (firstFreeOrEqual t (entriesOf (p .«num_strings») w)))

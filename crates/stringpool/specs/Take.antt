@@ -2,13 +2,14 @@
 use Prim.Native.Nat.{ℕ, _+_}
 use mathlib.Core.List.{List, [], _∷_, _++_}
 use lib.ListN.{length, getD, set}
-use lib.IntN.{ℤ, pos}
+use lib.IntN.{ℤ}
 use Rattle.common.specs.Choice.{if_then_else_, _<?_, _≤?_}
 use Rattle.common.specs.Answers.{Answer, gives, refused, nowhere, onGiven, outcome}
 use Rattle.order.specs.Order.{addFits, textFits}
 use Rattle.common.specs.Refusals.{refusedBy}
 pub use Rattle.pool_entries.specs.Choose.{sameBytes, equal, firstPlace, Chooser, firstFreeOrEqual}
 use Rattle.stringpool.specs.Pool.{Entry, entry, Rooms, entriesOf, texts, putBack, entryRoom, free, onSound}
+use Rattle.stringpool.specs.Refs.{referenceTo}
 use Rattle.stringpool.specs.declared.pool.StringPool.{StringPool}
 use Rattle.stringpool.specs.declared.takes.Taken.{Taken}
 use Rattle.stringpool.specs.declared.takes.Taken.the-variants as taken
@@ -33,7 +34,7 @@ takeAt p w t k =
     let after = takenAt t k es in
     let size = length (texts after) in
     onGiven (if length es ≤? k then addFits (p .«long_string_refs») (length es) (entryRoom w) size (length (w .text)) else textFits size (length (w .text)))
-    (λ _. gives ((pos (k + 1), counting p (length after)), putBack p w after))
+    (λ _. gives ((referenceTo k, counting p (length after)), putBack p w after))
 
 -- 22 for the text and for the text room, then 24
 abbrev pub takeAnswer : Chooser → StringPool → Rooms → List ℕ → Answer ((ℤ × StringPool) × Rooms)

@@ -1,25 +1,17 @@
 -- The pool stream and the data stream of a pool, and what writing one answers and leaves.
-use Prim.Native.Nat.{ℕ, _+_}
-use mathlib.Core.List.{List, _++_, map}
-use lib.ListN.{length}
-use Rattle.common.specs.Choice.{if_then_else_}
-use Rattle.common.specs.Lists.{joined}
+use Prim.Native.Nat.{ℕ}
+use mathlib.Core.List.{List}
 use Rattle.common.specs.Answers.{Answer, gives, outcome, writtenTo}
 use Rattle.common.specs.Refusals.{refusedBy}
-use Rattle.little_endian.specs.Numbers.{bytesOf}
-pub use Rattle.pool_stream.specs.Entries.{shortOf, wide, entryBytes}
-use Rattle.stringpool.specs.Pool.{Entry, Rooms, entriesOf, texts, onSound}
+pub use Rattle.pool_stream.specs.Entries.{shortOf, wide, entryBytes, markOf, streamBytes}
+use Rattle.stringpool.specs.Pool.{Rooms, entriesOf, texts, onSound}
 use Rattle.stringpool.specs.declared.pool.StringPool.{StringPool}
 use Rattle.stringpool.specs.declared.writes.Written.{Written}
 use Rattle.stringpool.specs.declared.writes.Written.the-variants as written
 
--- "Four bytes: bit 31 says long references (3 bytes), the rest is the code page."
-abbrev pub markOf : StringPool → ℕ
-markOf p = p .codepage + (if p .«long_string_refs» then 2147483648 else 0)
-
 -- the mark, "then entries"
 abbrev pub poolBytes : StringPool → Rooms → List ℕ
-poolBytes p w = bytesOf 4 (markOf p) ++ joined (map (λ (e : Entry). entryBytes (length (e .text)) (e .count)) (entriesOf p w))
+poolBytes p w = streamBytes (p .«num_strings») (p .«long_string_refs») (p .codepage) w
 
 -- "The data stream holds the texts in entry order"
 abbrev pub dataBytes : StringPool → Rooms → List ℕ

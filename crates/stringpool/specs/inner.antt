@@ -7,4 +7,3 @@ pub mod Refs
 pub mod Show
 pub mod Sound
 pub mod Take
-pub mod Write

@@ -81,7 +81,7 @@ fn drop_answer(p: StringPool, plan: Plan) -> Dropped
 fn drop_sound(p: StringPool, lengths: &[u32], counts: &[u16], r: StringRef, used: usize) -> Plan
     requires { ⌜ (p .«num_strings» ≤ length (now lengths)) × (p .«num_strings» ≤ length (now counts))
         × (p .«num_strings» ≤ 16777215) × (used ≡ total (take (p .«num_strings») (now lengths))) × (used ≤ 268435455) ⌝ }
-    ensures { λ a. ⌜ ((ts : List ℕ) → used ≤ length ts
+    ensures { λ a. ⌜ ((ts : List ℕ) → used ≤ length ts → length ts ≤ 268435455
         → Planned (outcome (rooms (now (lengths .entry)) (now (counts .entry)) ts) (onReference (r .0) (dropAt p (rooms (now (lengths .entry)) (now (counts .entry)) ts))))
         (droppedBy p a) a (rooms (now (lengths .entry)) (now (counts .entry)) ts) []) ⌝ }
 {

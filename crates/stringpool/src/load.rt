@@ -30,7 +30,7 @@ impl StringPool {
         match plan {
             LoadPlan::Refused(why) => Loaded::Refused(why),
             LoadPlan::Of(n, used) => {
-                copy_in(text, 0, &texts[..used]);
+                copy_in(&texts[..used], text);
                 Loaded::Ready(pool_from(pool, n))
             }
         }

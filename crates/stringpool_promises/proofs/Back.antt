@@ -19,12 +19,12 @@ use Rattle.stringpool.specs.Load as load
 use Rattle.stringpool.specs.Write.{shortOf, wide, entryBytes, markOf, poolBytes, dataBytes, writeAnswer, writeOutcome}
 use Rattle.stringpool.specs.inner.Sound.{smallB, allSmall}
 use Rattle.stringpool.specs.inner.Entries.{lengthsOf, countsOf}
-use Rattle.stringpool.specs.inner.Write.{entriesBytes, poolStream}
+use Rattle.pool_stream.specs.inner.Write.{entriesBytes, streamBy}
 use Rattle.stringpool.specs.declared.pool.StringPool.{StringPool}
 use Rattle.stringpool.proofs.Entries.{both, lengths-cut, counts-cut, texts-cut}
 use Rattle.stringpool.proofs.Sound.{SoundFit, then-second, false-true}
 use Rattle.pool_stream.proofs.Writing.{is-narrow, is-wide, length-narrow, length-wide, length-entry, write-done}
-use Rattle.stringpool.proofs.Streams.{pool-same}
+use Rattle.pool_stream.proofs.Writing.{stream-same}
 use Rattle.stringpool_promises.specs.Promises.{SoundState, Counts16, ReadsBack, Writes}
 use Rattle.order.proofs.Laws.{streams-do}
 use Rattle.stringpool_promises.proofs.Lists.{cut-texts}
@@ -166,7 +166,7 @@ module _ (p : StringPool) (w : Rooms) (f : SoundFit p w) (size : length (w .text
 
   -- the streams, by the lengths and counts
   abbrev S : List ℕ
-  S = poolStream p (w .lengths) (w .counts)
+  S = streamBy (markOf (p .«long_string_refs») (p .codepage)) n (w .lengths) (w .counts)
 
   abbrev D : List ℕ
   D = dataBytes p w
@@ -178,7 +178,7 @@ module _ (p : StringPool) (w : Rooms) (f : SoundFit p w) (size : length (w .text
   length-D = ap length (texts-cut L C (w .text) (both n w (f .fit))) ∙ length-take-le (total L) (w .text) (f .fit .text)
 
   marked-pool : poolFrom S n ≡ p
-  marked-pool = ap (λ (m : ℕ). record { «num_strings» = n; «long_string_refs» = leb 2147483648 m; codepage = m % 2147483648 }) (read-back 4 (markOf p) (entriesBytes L C) (below (p .«long_string_refs»))) ∙ go (p .«long_string_refs»)
+  marked-pool = ap (λ (m : ℕ). record { «num_strings» = n; «long_string_refs» = leb 2147483648 m; codepage = m % 2147483648 }) (read-back 4 (markOf (p .«long_string_refs») (p .codepage)) (entriesBytes L C) (below (p .«long_string_refs»))) ∙ go (p .«long_string_refs»)
     where
       below : (b : Bool) → p .codepage + (if b then 2147483648 else 0) < 256 ^ 4
       below true = omega (arith, f .page)
@@ -242,7 +242,7 @@ reads-back p w v out₁ out₂ h c small room text r₁ r₂ =
     ap (λ (x : Answer ℕ × List ℕ). take (length (dataBytes p w)) (x .1)) b ∙ take-at (dataBytes p w) (drop (length (dataBytes p w)) out₂) (length (dataBytes p w)) refl in
     let e : loadOutcome (take (length (poolBytes p w)) (writeOutcome p w (poolBytes p w) out₁ .1)) (take (length (dataBytes p w)) (writeOutcome p w (dataBytes p w) out₂ .1)) v
     ≡ (gives p, Left p w f (h .0) c v small room text) =
-    ap₂ (λ (x y : List ℕ). loadOutcome x y v) (ta ∙ sym (pool-same p w (f .fit))) tb ∙ read-pool p w f (h .0) c v small room text in
+    ap₂ (λ (x y : List ℕ). loadOutcome x y v) (ta ∙ sym (stream-same (p .«num_strings») (p .«long_string_refs») (p .codepage) w (f .fit))) tb ∙ read-pool p w f (h .0) c v small room text in
     record {
       m = length (poolBytes p w);
       n = length (dataBytes p w);

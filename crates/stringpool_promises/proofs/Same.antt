@@ -18,11 +18,12 @@ use Rattle.little_endian.proofs.Laws.{write-back, number-lt}
 use Rattle.stringpool.specs.Pool.{Rooms, rooms}
 use Rattle.stringpool.specs.Load.{Found, one, ends, onFound, entriesIn, poolFrom, loadOutcome}
 use Rattle.stringpool.specs.Write.{shortOf, wide, entryBytes, markOf, poolBytes, dataBytes}
-use Rattle.stringpool.specs.inner.Write.{entriesBytes, poolStream}
+use Rattle.pool_stream.specs.inner.Write.{entriesBytes, streamBy}
 use Rattle.stringpool.specs.declared.pool.StringPool.{StringPool}
 use Rattle.stringpool.proofs.Sound.{SoundFit}
 use Rattle.pool_stream.proofs.Writing.{is-narrow, is-wide, length-narrow, length-wide}
-use Rattle.stringpool.proofs.Streams.{pool-same, data-same}
+use Rattle.stringpool.proofs.Streams.{data-same}
+use Rattle.pool_stream.proofs.Writing.{stream-same}
 use Rattle.stringpool_promises.specs.Promises.{SoundState, addFound, addIn, stray, shortWide, Plain, Writes, SamePoolStream, SameDataStream}
 use Rattle.stringpool_promises.proofs.Loading.{loads-sound, View, at-end, is-cut, narrow, broad, view, refused-gives, given, gave, IsLoaded, is-loaded, bytes-drop, lengths-in, counts-in, loaded-fits}
 use Rattle.stringpool_promises.proofs.Back.{writes}
@@ -138,8 +139,11 @@ module _ (s d : List ℕ) (w v : Rooms) (p : StringPool) (out : List ℕ) (b : A
   state : SoundState (record { pool = p; rooms = v })
   state = loads-sound s d w p v b e
 
+  abbrev Mark : ℕ
+  Mark = let q = poolFrom s (length (l .ls)) in markOf (q .«long_string_refs») (q .codepage)
+
   -- the mark is written back
-  mark-same : bytesOf 4 (markOf (poolFrom s (length (l .ls)))) ≡ take 4 s
+  mark-same : bytesOf 4 Mark ≡ take 4 s
   mark-same = ap (bytesOf 4) (go (leb 2147483648 (numberAt 4 s 0)) refl) ∙ write-back 4 s 0 b (l .marked)
     where
       go : (t : Bool) → leb 2147483648 (numberAt 4 s 0) ≡ t → numberAt 4 s 0 % 2147483648 + (if t then 2147483648 else 0) ≡ numberAt 4 s 0
@@ -148,9 +152,9 @@ module _ (s d : List ℕ) (w v : Rooms) (p : StringPool) (out : List ℕ) (b : A
 
   pool-is : poolBytes p v ≡ take 4 s ++ entriesBytes (l .ls) (l .cs)
   pool-is =
-      sym (pool-same p v (fit .fit))
-      ∙ ap₂ (λ (q : StringPool) (r : Rooms). poolStream q (r .lengths) (r .counts)) (l .pool) (l .left)
-      ∙ ap₂ (λ (x y : List ℕ). bytesOf 4 (markOf (poolFrom s (length (l .ls)))) ++ entriesBytes x y) (lengths-in s d w p v b l) (counts-in s d w p v b l)
+      sym (stream-same (p .«num_strings») (p .«long_string_refs») (p .codepage) v (fit .fit))
+      ∙ ap₂ (λ (q : StringPool) (r : Rooms). streamBy (markOf (q .«long_string_refs») (q .codepage)) (q .«num_strings») (r .lengths) (r .counts)) (l .pool) (l .left)
+      ∙ ap₂ (λ (x y : List ℕ). bytesOf 4 Mark ++ entriesBytes x y) (lengths-in s d w p v b l) (counts-in s d w p v b l)
       ∙ ap (λ (x : List ℕ). x ++ entriesBytes (l .ls) (l .cs)) mark-same
 
   all-written : Written (length s) (drop 4 s) (l .ls, l .cs)

@@ -2,16 +2,18 @@
 use mathlib.Core.Path.{_≡_, refl, sym, ap, ap₂, _∙_}
 use Prim.Native.Nat.{ℕ, _+_, _-_, _≤_, _<_, max}
 use native.Mathlib.Omega.{arith}
-use mathlib.Core.Bool.{Bool, true, false, _&&_}
-use lib.Dec.{leb}
-use borrow.Author.Tests.{le-leb, lt-leb, leb-true, leb-false}
-use Rattle.common.specs.Choice.{if_then_else_}
-use Rattle.common.specs.Lists.{overAt}
+use mathlib.Core.Bool.{Bool, true, false, _||_}
+use lib.Dec.{ltb}
+use borrow.Author.Tests.{le-ltb, ltb-false}
+use Rattle.common.specs.Lists.{_over_}
+use Rattle.common.specs.Answers.{Answer, gives, nowhere, onGiven, outcome, writtenTo}
 use Rattle.common.proofs.Parts.{paste-over}
+use Rattle.common.proofs.Outcomes.{past}
+use Rattle.order.proofs.Laws.{text-fits}
 use mathlib.Core.List.{List, _++_, append-assoc, append-nil}
 use lib.ListN.{length, take, drop, replicate, length-append, length-drop, length-replicate}
 use lib.Seq.{paste, length-paste, take-at, drop-at, take-append-le, drop-append-add, drop-drop, take-take, take-length, take-all, length-take-le}
-use Rattle.text_room.specs.Texts.{splice, fits, replaced, copiedIn}
+use Rattle.text_room.specs.Texts.{splice, replaceFits, replaceOutcome, copyOutcome}
 
 -- the used part after the replacement
 abbrev pub front : List ℕ → ℕ → ℕ → ℕ → List ℕ → List ℕ
@@ -87,55 +89,43 @@ module _ (ts : List ℕ) (start old used : ℕ) (new : List ℕ)
 
 -- ---- where it fits
 
-pub replaced-fits : (ts : List ℕ) (start old used : ℕ) (new : List ℕ) → start + old ≤ used → used ≤ length ts → used - old + length new ≤ length ts
-    → replaced ts start old used new ≡ splice ts start old used new
-replaced-fits ts start old used new h hu room =
-    let f : (leb (start + old) used && leb used (length ts)) ≡ true = ap₂ (λ (a b : Bool). a && b) (le-leb (start + old) used h) (le-leb used (length ts) hu) in
-    ap₂ (λ (a b : Bool). if a && b then splice ts start old used new else ts) f (le-leb (used - old + length new) (length ts) room)
-
-pub copied-fits : (room : List ℕ) (at : ℕ) (new : List ℕ) → at + length new ≤ length room → copiedIn room at new ≡ overAt at new room
-copied-fits room at new h = ap (λ (b : Bool). if b then overAt at new room else room) (le-leb (at + length new) (length room) h)
-
-pub copied-paste : (room : List ℕ) (at : ℕ) (new : List ℕ) → at + length new ≤ length room → copiedIn room at new ≡ paste room at new (length new)
-copied-paste room at new h =
-    copied-fits room at new h ∙ ap (λ (x : List ℕ). overAt at x room) (sym (take-length new)) ∙ sym (paste-over at (length new) new room (omega arith))
-
-pub copied-not : (room : List ℕ) (at : ℕ) (new : List ℕ) → length room < at + length new → room ≡ copiedIn room at new
-copied-not room at new h = sym (ap (λ (b : Bool). if b then overAt at new room else room) (lt-leb (at + length new) (length room) h))
-
--- the tests one after the other
-pub fits-is : (room start old used size : ℕ) → used ≤ room → start ≤ used → old ≤ used - start → leb size (room - (used - old)) ≡ fits room start old used size
-fits-is room start old used size h hs ho =
-    let f : (leb (start + old) used && leb used room) ≡ true = ap₂ (λ (a b : Bool). a && b) (le-leb (start + old) used (omega arith)) (le-leb used room h) in
-    go (leb size (room - (used - old))) refl ∙ ap (λ (a : Bool). a && leb (used - old + size) room) (sym f)
-  where
-    go : (b : Bool) → leb size (room - (used - old)) ≡ b → b ≡ leb (used - old + size) room
-    go true e = sym (le-leb (used - old + size) room (omega (arith, leb-true size (room - (used - old)) e)))
-    go false e = sym (lt-leb (used - old + size) room (omega (arith, leb-false size (room - (used - old)) e)))
-
-and-false : (a : Bool) → (a && false) ≡ false
-and-false true = refl
-and-false false = refl
-
-pub fits-used : (room start old used size : ℕ) → room < used → false ≡ fits room start old used size
-fits-used room start old used size h =
-    sym (ap (λ (b : Bool). leb (start + old) used && b && leb (used - old + size) room) (lt-leb used room h)
-    ∙ ap (λ (b : Bool). b && leb (used - old + size) room) (and-false (leb (start + old) used)))
-
-pub fits-old : (room start old used size : ℕ) → used < start + old → false ≡ fits room start old used size
-fits-old room start old used size h = sym (ap (λ (b : Bool). b && leb used room && leb (used - old + size) room) (lt-leb (start + old) used h))
-
 -- what fits, by parts
 pub record Fits (room start old used size : ℕ) : Type 0 where
   pub inside : start + old ≤ used
   pub within : used ≤ room
   pub roomy : used - old + size ≤ room
 
-pub fits-so : (room start old used size : ℕ) → fits room start old used size ≡ true → Fits room start old used size
-fits-so room start old used size e = go (leb (start + old) used) (leb used room) (leb (used - old + size) room) refl refl refl e
-  where
-    go : (a b c : Bool) → leb (start + old) used ≡ a → leb used room ≡ b → leb (used - old + size) room ≡ c → (a && b && c) ≡ true → Fits room start old used size
-    go true true true f g h q = record { inside = leb-true _ _ f; within = leb-true _ _ g; roomy = leb-true _ _ h }
-    go true true false f g h q = absurd (let y : _≡_ {A = ℕ} 0 1 = cc in omega arith)
-    go true false c f g h q = absurd (let y : _≡_ {A = ℕ} 0 1 = cc in omega arith)
-    go false b c f g h q = absurd (let y : _≡_ {A = ℕ} 0 1 = cc in omega arith)
+neither : (a b : Bool) → (a || b) ≡ false → (a ≡ false) × (b ≡ false)
+neither true b e = absurd (let y : _≡_ {A = ℕ} 0 1 = cc in omega arith)
+neither false b e = (refl, e)
+
+pub fits-so : (room start old used size : ℕ) → replaceFits room start old used size ≡ gives tt → Fits room start old used size
+fits-so room start old used size e =
+    let a = past (ltb 268435455 room || ltb 268435455 size) 22 nowhere e in
+    let b = past (ltb room used || ltb used (start + old)) 24 nowhere (a .1) in
+    let n = neither (ltb room used) (ltb used (start + old)) (b .0) in
+    record { inside = ltb-false used (start + old) (n .1); within = ltb-false room used (n .0); roomy = text-fits (used - old + size) room (b .1) }
+
+-- a replacement, by what was judged
+pub by-fits : (ts : List ℕ) (start old used : ℕ) (new : List ℕ) {a : Answer (Unit {0})} → a ≡ replaceFits (length ts) start old used (length new)
+    → outcome ts (onGiven a (λ _. gives (tt, splice ts start old used new))) ≡ replaceOutcome ts start old used new
+by-fits ts start old used new e = ap (λ (a : Answer (Unit {0})). outcome ts (onGiven a (λ _. gives (tt, splice ts start old used new)))) e
+
+-- one that fits is done
+pub replaced : (ts : List ℕ) (start old used : ℕ) (new : List ℕ) → length ts ≤ 268435455 → length new ≤ 268435455
+    → start + old ≤ used → used ≤ length ts → used - old + length new ≤ length ts
+    → replaceOutcome ts start old used new ≡ (gives tt, splice ts start old used new)
+replaced ts start old used new large small h hu room =
+    simp (le-ltb _ _ large, le-ltb _ _ small, le-ltb _ _ hu, le-ltb _ _ h, le-ltb _ _ room)
+
+-- bytes within the size are written where they have room
+pub copy-small : (bytes out : List ℕ) → length bytes ≤ 268435455 → outcome out (writtenTo out bytes) ≡ copyOutcome bytes out
+copy-small bytes out small = simp (le-ltb _ _ small)
+
+-- and so they are where they have
+pub copied : (bytes out : List ℕ) → length bytes ≤ 268435455 → length bytes ≤ length out → copyOutcome bytes out ≡ (gives (length bytes), bytes over out)
+copied bytes out small room = simp (le-ltb _ _ small, le-ltb _ _ room)
+
+-- the copy, by its stores
+pub copied-front : (bytes out : List ℕ) → length bytes ≤ length out → paste out 0 bytes (length bytes) ≡ bytes over out
+copied-front bytes out room = paste-over 0 (length bytes) bytes out (omega arith) ∙ ap (λ (x : List ℕ). x over out) (take-length bytes)

@@ -1,9 +1,15 @@
-// How one text is put in the place of another, and bytes are copied into a room.
+// How one text is put in the place of another, and bytes are copied into an output.
+use common::Refusal;
+use common::sizes::MAX_BYTES;
+use little_endian::Written;
+use order::Fits;
 ghost use mathlib.Core.Path.{_≡_};
 ghost use Prim.Native.Nat.{_+_, _-_, _≤_, _<_};
 ghost use lib.ListN.{length, drop, replicate};
 ghost use lib.Seq.{paste};
-ghost use Rattle.text_room.specs.Texts.{splice, fits, replaced, copiedIn};
+ghost use Rattle.order.specs.Order.{fitsAs};
+ghost use Rattle.little_endian.specs.Numbers.{writtenAs};
+ghost use Rattle.text_room.specs.Texts.{splice, replaceFits, replaceOutcome, copyOutcome};
 
 // Moves size bytes from `from` down to `to`, the first byte first.
 fn move_down(text: &mut [u8], to: usize, from: usize, size: usize)
@@ -53,6 +59,18 @@ fn move_text(text: &mut [u8], to: usize, from: usize, size: usize)
     }
 }
 
+// Writes src to `at`.
+fn copy(room: &mut [u8], at: usize, src: &[u8])
+    requires { ⌜ at + length (now src) ≤ length (now room) ⌝ }
+    ensures { λ _. ⌜ now (room .exit) ≡ paste (now (room .entry)) at (now (src .entry)) (length (now (src .entry))) ⌝ }
+{
+    let mut j = 0;
+    while j < src.len() {
+        room[at + j] = src[j];
+        j += 1;
+    }
+}
+
 // Puts new in the place of the old bytes at start, where used bytes are in use:
 // later bytes move, and bytes given up at the end of the used part become 0.
 fn put(text: &mut [u8], start: usize, old: usize, used: usize, new: &[u8])
@@ -63,52 +81,63 @@ fn put(text: &mut [u8], start: usize, old: usize, used: usize, new: &[u8])
     let rest = used - from;
     let to = start + new.len();
     move_text(text, to, from, rest);
-    copy_in(text, start, new);
+    copy(text, start, new);
     let end = to + rest;
     if end < used {
         zero(text, end, used - end);
     }
 }
 
-// Whether the old bytes are in use, those in use are in the room, and so is what takes their place.
-fn has_room(room: usize, start: usize, old: usize, used: usize, size: usize) -> bool
-    ensures { λ r. ⌜ r ≡ fits room start old used size ⌝ }
+// Whether a text of that size may take the place of the old bytes.
+fn replace_fits(room: usize, start: usize, old: usize, used: usize, size: usize) -> Fits
+    ensures { λ r. ⌜ fitsAs r ≡ replaceFits room start old used size ⌝ }
 {
+    if room > MAX_BYTES {
+        return Fits::Refused(Refusal::OverSize);
+    }
+    if size > MAX_BYTES {
+        return Fits::Refused(Refusal::OverSize);
+    }
     if used > room {
-        return false;
+        return Fits::Refused(Refusal::Unsound);
     }
     if start > used {
-        return false;
+        return Fits::Refused(Refusal::Unsound);
     }
     if old > used - start {
-        return false;
+        return Fits::Refused(Refusal::Unsound);
     }
-    size <= room - (used - old)
+    if used - old + size > room {
+        return Fits::Refused(Refusal::TextRoom);
+    }
+    Fits::Yes
 }
 
-// The text with new in the place of the old bytes at start, where used bytes are in use: later bytes move, and bytes
-// given up at the end of the used part become 0. Where this does not fit the room, nothing changes.
-pub fn replace(text: &mut [u8], start: usize, old: usize, used: usize, new: &[u8])
-    ensures { λ _. ⌜ now (text .exit) ≡ replaced (now (text .entry)) start old used (now (new .entry)) ⌝ }
+// Puts new in the place of the old bytes at start of a text room, of which used bytes are in use: later bytes move, and bytes
+// given up at the end of the used part become 0.
+pub fn replace(text: &mut [u8], start: usize, old: usize, used: usize, new: &[u8]) -> Fits
+    ensures { λ r. ⌜ (fitsAs r, now (text .exit)) ≡ replaceOutcome (now (text .entry)) start old used (now (new .entry)) ⌝ }
 {
-    if has_room(text.len(), start, old, used, new.len()) {
-        put(text, start, old, used, new);
+    let fits = replace_fits(text.len(), start, old, used, new.len());
+    match fits {
+        Fits::Refused(why) => Fits::Refused(why),
+        Fits::Yes => {
+            put(text, start, old, used, new);
+            Fits::Yes
+        }
     }
 }
 
-// The room with src written at `at`. Where this does not fit, nothing changes.
-pub fn copy_in(room: &mut [u8], at: usize, src: &[u8])
-    ensures { λ _. ⌜ now (room .exit) ≡ copiedIn (now (room .entry)) at (now (src .entry)) ⌝ }
+// Writes the bytes to the front of the output.
+pub fn copy_in(bytes: &[u8], out: &mut [u8]) -> Written
+    ensures { λ r. ⌜ (writtenAs r, now (out .exit)) ≡ copyOutcome (now (bytes .entry)) (now (out .entry)) ⌝ }
 {
-    if at > room.len() {
-        return;
+    if bytes.len() > MAX_BYTES {
+        return Written::Refused(Refusal::OverSize);
     }
-    if src.len() > room.len() - at {
-        return;
+    if bytes.len() > out.len() {
+        return Written::Refused(Refusal::OutputRoom);
     }
-    let mut j = 0;
-    while j < src.len() {
-        room[at + j] = src[j];
-        j += 1;
-    }
+    copy(out, 0, bytes);
+    Written::Bytes(bytes.len())
 }

@@ -1,5 +1,5 @@
 -- What a take or a drop is to do, settled before a byte is touched.
-use Prim.Native.Nat.{ℕ, _+_, _-_, _≤_, _<_, _^_}
+use Prim.Native.Nat.{ℕ, _+_, _-_, _≤_, _<_}
 use mathlib.Core.Path.{_≡_}
 use mathlib.Core.List.{List}
 use lib.ListN.{length, set}
@@ -20,8 +20,8 @@ abbrev pub Ready : Plan → Rooms → List ℕ → Type 0
 Ready (Refused why) w t = Unit {0}
 Ready (Count k c) w t = (k < 16777215) × (k < length (w .counts))
 Ready (Put k start old used c) w t =
-    (k < 16777215) × (k < length (w .lengths)) × (k < length (w .counts)) × (length t < 2 ^ 32)
-    × (start + old ≤ used) × (used ≤ length (w .text)) × (used - old + length t ≤ length (w .text))
+    (k < 16777215) × (k < length (w .lengths)) × (k < length (w .counts)) × (length t ≤ 268435455)
+    × (start + old ≤ used) × (used ≤ length (w .text)) × (used - old + length t ≤ length (w .text)) × (length (w .text) ≤ 268435455)
 
 -- an answer and a plan that make an outcome
 pub record Planned {A : Type 0} (goal : Answer A × Rooms) (a : Answer A) (x : Plan) (w : Rooms) (t : List ℕ) : Type 0 where

@@ -3,7 +3,7 @@ use mathlib.Core.Path.{_≡_, refl, ap, _∙_}
 use Prim.Native.Nat.{ℕ, _-_, _*_, _≤_}
 use native.Mathlib.Omega.{arith}
 use lib.ListN.{length, take}
-use Rattle.pool_stream.specs.Entries.{entriesBytes}
+use Rattle.pool_stream.specs.inner.Write.{entriesBytes}
 use Rattle.pool_stream.proofs.Writing.{length-suc}
 use Rattle.pool_stream.proofs.write.entries_size.Statement.{statement}
 use Rattle.pool_stream.proofs.write.entries_size.Tie as tie

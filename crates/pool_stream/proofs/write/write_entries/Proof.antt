@@ -5,7 +5,7 @@ use native.Mathlib.Omega.{arith}
 use mathlib.Core.List.{List}
 use lib.ListN.{length, take, getD}
 use Rattle.pool_stream.specs.Entries.{entryBytes}
-use Rattle.pool_stream.specs.Entries.{entriesBytes}
+use Rattle.pool_stream.specs.inner.Write.{entriesBytes}
 use Rattle.common.specs.Lists.{overAt}
 use Rattle.pool_stream.proofs.Writing.{length-suc, turn-room, turn-out}
 use Rattle.pool_stream.proofs.write.write_entries.Statement.{statement}

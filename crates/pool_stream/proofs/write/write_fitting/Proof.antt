@@ -3,8 +3,7 @@ use Prim.Native.Nat.{ℕ, _+_, _≤_}
 use native.Mathlib.Omega.{arith}
 use mathlib.Core.List.{List}
 use lib.ListN.{length, take}
-use Rattle.pool_stream.specs.Entries.{entriesBytes}
-use Rattle.pool_stream.specs.Write.{streamBytes}
+use Rattle.pool_stream.specs.inner.Write.{entriesBytes, streamBy}
 use Rattle.little_endian.specs.Numbers.{bytesOf}
 use Rattle.pool_stream.proofs.Writing.{wrote, write-short, write-done, marked}
 use borrow.Author.Needs.{needs}
@@ -14,14 +13,14 @@ use Rattle.pool_stream.proofs.write.write_fitting.Tie as tie
 returns : tie.Need-returns
 returns c =
     let s = c .before .before .before .before .before in
-    write-short (streamBytes (s .args .mark) (s .args .n) (s .args .lengths .now) (s .args .counts .now)) (s .args .out .now) (omega (arith, c .before .entries-size .ensures, c .if1 .taken))
+    write-short (streamBy (s .args .mark) (s .args .n) (s .args .lengths .now) (s .args .counts .now)) (s .args .out .now) (omega (arith, c .before .entries-size .ensures, c .if1 .taken))
 
 returns-2 : tie.Need-returns-2
 returns-2 c =
     let s = c .before .before .before .before .before .before .before .before .before .before .before .before .before in
     let o : List ℕ = s .args .out .now in
     let E : List ℕ = entriesBytes (take (s .args .n) (s .args .lengths .now)) (take (s .args .n) (s .args .counts .now)) in
-    let S : List ℕ = streamBytes (s .args .mark) (s .args .n) (s .args .lengths .now) (s .args .counts .now) in
+    let S : List ℕ = streamBy (s .args .mark) (s .args .n) (s .args .lengths .now) (s .args .counts .now) in
     let l : length S ≡ 4 + length E = omega arith in
     let room : length S ≤ length o = omega (arith, c .before .before .before .before .before .before .before .before .before .entries-size .ensures, c .before .before .before .before .before .before .before .before .if1 .left) in
     write-done S o _ _ room (ap (λ (k : ℕ). 4 + k) (c .before .before .before .before .before .before .before .before .before .entries-size .ensures .0) ∙ sym l)

@@ -24,11 +24,11 @@ there : (c : tie.After-enum-told2) → c .before .before .before .before .before
 there c = drop-fits _ _ (countAt (c .before .before .before .before .before .before .before .before .before .before .args .p .«num_strings») (c .before .before .before .before .before .before .before .before .before .before .args .counts .now) (c .before .before .before .before .before .place2 .given .0 .0 .0)) (sym (fits c)) .0
 
 returns : tie.Need-returns
-returns c = λ ts h. let s = c .before .before .before .before .before in drop-outside (s .args .p) (s .args .r .0) (rooms (s .args .lengths .now) (s .args .counts .now) ts) (sym (c .before .before .place .ensures) ∙ c .enum-told .given .1)
+returns c = λ ts h size. let s = c .before .before .before .before .before in drop-outside (s .args .p) (s .args .r .0) (rooms (s .args .lengths .now) (s .args .counts .now) ts) (sym (c .before .before .place .ensures) ∙ c .enum-told .given .1)
 
 returns-2 : tie.Need-returns-2
 returns-2 c =
-    λ ts h.
+    λ ts h size.
     let s = c .before .before .before .before .before .before .before .before .before .before .before in
     let w = rooms (s .args .lengths .now) (s .args .counts .now) ts in
     let fit : Fit (s .args .p .«num_strings») w = record { lengths = s .pre .0; counts = s .pre .1; text = omega (arith, s .pre .3, h) } in
@@ -38,7 +38,7 @@ returns-2 c =
 
 returns-3 : tie.Need-returns-3
 returns-3 c =
-    λ ts h.
+    λ ts h size.
     let s = c .before .before .before .before .before .before .before .before .before .before .before in
     let w = rooms (s .args .lengths .now) (s .args .counts .now) ts in
     let fit : Fit (s .args .p .«num_strings») w = record { lengths = s .pre .0; counts = s .pre .1; text = omega (arith, s .pre .3, h) } in
@@ -61,12 +61,12 @@ cast-t19 c = omega (arith, c .shared-slice-known3 .given (c .before .before .bef
 
 returns-4 : tie.Need-returns-4
 returns-4 c =
-    λ ts h.
+    λ ts h size.
     let s = c .before .before .before .before .before .before .before .before .before .before .before .before .before in
     let w = rooms (s .args .lengths .now) (s .args .counts .now) ts in
     let fit : Fit (s .args .p .«num_strings») w = record { lengths = s .pre .0; counts = s .pre .1; text = omega (arith, s .pre .3, h) } in
     let at = sym (c .before .before .before .before .before .before .before .before .before .before .place .ensures) ∙ c .before .before .before .before .before .before .before .before .place2 .given .1 in
-    rw (c .before .start-of .ensures, s .pre .3) (drop-last (s .args .p) (s .args .r .0) w fit _ at (fits (c .before .before .before)) (s .pre .2) (omega (arith, c .before .before .if1 .left, c .before .before .before .before .before .before .count-of .ensures)))
+    rw (c .before .start-of .ensures, s .pre .3) (drop-last (s .args .p) (s .args .r .0) w fit _ at (fits (c .before .before .before)) (s .pre .2) size (omega (arith, c .before .before .if1 .left, c .before .before .before .before .before .before .count-of .ensures)))
 
 pub drop-sound-spec : {M : Type 1} → statement M
 drop-sound-spec =

@@ -29,7 +29,7 @@ returns-2 c =
     let back : toZ w32 (ofZ w32 z) ≡ z = toZ-ofZ w32 z (search needs) in
     let e = sym (c .before .before .before .before .judge .ensures) ∙ c .before .before .j2 .given .1 in
     let j = judging (s .args .p) (rooms (s .args .lengths .now) (s .args .counts .now) (s .args .text .now)) e in
-    drop-sound (s .args .p) _ z (rooms (s .args .lengths .now) (s .args .counts .now) (s .args .text .now)) _ back e (c .drop-sound .ensures (s .args .text .now) (omega (arith, j .used, j .all .fit .text)))
+    drop-sound (s .args .p) _ z (rooms (s .args .lengths .now) (s .args .counts .now) (s .args .text .now)) _ back e (c .drop-sound .ensures (s .args .text .now) (omega (arith, j .used, j .all .fit .text)) (j .size))
 
 pub plan-drop-spec : {M : Type 1} → statement M
 plan-drop-spec =

@@ -1,6 +1,9 @@
-use Rattle.text_room.proofs.Splice.{replaced-fits}
+use Rattle.text_room.proofs.Splice.{replaced}
 use mathlib.Core.Path.{refl, sym, ap, _∙_}
+use Prim.Native.Nat.{ℕ}
 use native.Mathlib.Omega.{arith}
+use mathlib.Core.List.{List}
+use Rattle.common.specs.Answers.{Answer}
 use Rattle.stringpool.specs.Pool.{rooms}
 use Rattle.stringpool.specs.inner.Plan.{carried}
 use Rattle.stringpool.specs.declared.entry.Plan.{Plan}
@@ -41,7 +44,7 @@ returns-3 : tie.Need-returns-3
 returns-3 c =
     let s = c .before .before .before .before .before .before .before .before .before .before .before in
     let r = ready-by (rooms (s .args .lengths .now) (s .args .counts .now) (s .args .text .now)) (s .args .new .now) _ _ (c .before .before .before .before .before .plan2 .given .1) (s .pre) in
-    rooms-eq refl refl (c .before .before .replace .ensures ∙ replaced-fits (s .args .text .now) _ _ _ (s .args .new .now) (r .4) (r .5) (r .6))
+    rooms-eq refl refl (ap (λ (x : Answer (Unit {0}) × List ℕ). x .1) (c .before .before .replace .ensures ∙ replaced (s .args .text .now) _ _ _ (s .args .new .now) (r .7) (r .3) (r .4) (r .5) (r .6)))
     ∙ sym (ap (λ (x : Plan). carried x (rooms (s .args .lengths .now) (s .args .counts .now) (s .args .text .now)) (s .args .new .now)) (c .before .before .before .before .before .plan2 .given .1))
 
 pub carry-out-spec : {M : Type 1} → statement M

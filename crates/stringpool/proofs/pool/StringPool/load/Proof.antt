@@ -8,9 +8,9 @@ use Rattle.stringpool.proofs.pool.StringPool.load.Tie as tie
 
 slice-aggregate-copy-in : tie.Need-slice-aggregate-copy-in
 slice-aggregate-copy-in c =
-    let s = c .before .before .before .before .before .before .before .before .before .before .before .before .before .before .before .before .before in
+    let s = c .before .before .before .before .before .before .before .before .before .before .before .before .before .before .before .before in
     let w = rooms (s .args .lengths .now) (s .args .counts .now) (s .args .text .now) in
-    let e = by-plan (s .args .pool .now) (s .args .texts .now) w (c .before .before .before .plan2 .given .1) (c .before .before .before .before .before .before .before .before .before .load-entries .ensures) in
+    let e = by-plan (s .args .pool .now) (s .args .texts .now) w (c .before .before .plan2 .given .1) (c .before .before .before .before .before .before .before .before .load-entries .ensures) in
     sym (length-take-le _ (s .args .texts .now) (stored (s .args .pool .now) (s .args .texts .now) w _ _ _ _ e))
 
 returns : tie.Need-returns
@@ -25,7 +25,7 @@ returns-2 c =
     let s = c .before .before .before .before .before .before .before .before .before .before .before .before .before .before .before .before .before .before .before .before .before in
     let w = rooms (s .args .lengths .now) (s .args .counts .now) (s .args .text .now) in
     let e = by-plan (s .args .pool .now) (s .args .texts .now) w (c .before .before .before .before .before .before .before .plan2 .given .1) (c .before .before .before .before .before .before .before .before .before .before .before .before .before .load-entries .ensures) in
-    loaded (s .args .pool .now) (s .args .texts .now) w _ _ _ _ e _ (c .pool-from .ensures) _ (c .before .before .before .copy-in .ensures)
+    loaded (s .args .pool .now) (s .args .texts .now) w _ _ _ _ e _ (c .pool-from .ensures) _ _ (c .before .before .before .copy-in .ensures)
 
 pub load-spec : {M : Type 1} → statement M
 load-spec =

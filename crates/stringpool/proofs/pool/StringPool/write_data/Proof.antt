@@ -16,7 +16,7 @@ write-texts-requires : tie.Need-write-texts-requires
 write-texts-requires c κs =
     let s = c .before .before .before .before .before .before .before .before .before in
     let j = judging (s .args .self) (rooms (s .args .lengths .now) (s .args .counts .now) (s .args .text .now)) (sym (c .before .before .before .before .judge .ensures) ∙ c .before .before .j2 .given .1) in
-    omega (arith, j .used, j .all .fit .text)
+    (omega (arith, j .used, j .all .fit .text), omega (arith, j .used, j .all .fit .text, j .size))
 
 returns : tie.Need-returns
 returns c =

@@ -1,8 +1,8 @@
 use mathlib.Core.Path.{sym}
 use native.Mathlib.Nat.{add-zero}
 use borrow.Author.Needs.{needs}
-use Rattle.stringpool.proofs.writes.mark.Statement.{statement}
-use Rattle.stringpool.proofs.writes.mark.Tie as tie
+use Rattle.pool_stream.proofs.write.mark.Statement.{statement}
+use Rattle.pool_stream.proofs.write.mark.Tie as tie
 
 returns : tie.Need-returns
 returns c = let f = c .if1 .taken in simp f

@@ -9,11 +9,10 @@ use lib.Dec.{ltb, eqb, lit≤}
 use lib.IntN.{ℤ, pos}
 use lib.ListN.{length, getD, take, drop, length-append, length-drop}
 use lib.Seq.{take-append-seam, drop-drop, take-append-le, drop-append-le, drop-at}
-use borrow.Author.Tests.{le-ltb, eqb-true, eqb-false}
+use borrow.Author.Tests.{lt-ltb, le-ltb, ne-eqb, eqb-true, eqb-false}
 use Rattle.common.specs.Choice.{if_then_else_}
 use Rattle.common.specs.Lists.{_over_, joined, from}
 use Rattle.common.specs.Answers.{Place, nowhere, Answer, gives, refused, cell, each, refusalOf, onGiven, outcome}
-use Rattle.common.proofs.Parts.{over-all}
 use Rattle.little_endian.specs.Numbers.{bytesOf, numberAt}
 use Rattle.little_endian.proofs.Laws.{read-back, length-bytes}
 use Rattle.column_type.specs.declared.form.ColumnType.{ColumnType}
@@ -25,7 +24,7 @@ use Rattle.order.proofs.Cells.{bulk}
 use Rattle.table.specs.declared.layout.Table.{Table}
 use Rattle.table.specs.Layout.{typesOf, soundColumns}
 use Rattle.table.specs.Rows.{rowSize, rowsIn, typeAt, cellAt, rowByRow}
-use Rattle.table.specs.Reading.{rowsFound, numRowsAnswer, readRowsOutcome}
+use Rattle.table.specs.Reading.{rowsFound, numRowsAnswer, readCellAnswer, readRowsOutcome}
 use Rattle.table.specs.Writing.{Cells, cellBytes, columnBytes, tableBytes, writeRowsOutcome}
 use Rattle.table.specs.inner.Layout.{Sound}
 use Rattle.table.specs.inner.Columns.{givenBytes, plain}
@@ -42,10 +41,10 @@ use Rattle.table_promises.proofs.Agree.{read-is}
 use Rattle.table_promises.proofs.Pieces.{equal-at, plain-split}
 
 -- what a write that was not refused says
-record Done (t : Table) (rows : ℕ) (cells : Cells) (out : List ℕ) (n : ℕ) (left : List ℕ) : Type 0 where
-  sound : Sound t
-  few : rows ≤ 65536
-  fine : refusalOf (tableBytes (typesOf t) (t .«long_string_refs») rows cells) ≡ gives tt
+pub record Done (t : Table) (rows : ℕ) (cells : Cells) (out : List ℕ) (n : ℕ) (left : List ℕ) : Type 0 where
+  pub sound : Sound t
+  pub few : rows ≤ 65536
+  pub fine : refusalOf (tableBytes (typesOf t) (t .«long_string_refs») rows cells) ≡ gives tt
   count : n ≡ length (givenBytes (tableBytes (typesOf t) (t .«long_string_refs») rows cells))
   is : left ≡ (givenBytes (tableBytes (typesOf t) (t .«long_string_refs») rows cells) over out)
 
@@ -68,7 +67,7 @@ module _ (t : Table) (rows : ℕ) (cells : Cells) (out : List ℕ) (n : ℕ) (le
   abbrev order : Answer (Unit {0})
   order = bulkFits 65536 rows (length (typesOf t)) (length (cells .kinds)) (length (cells .numbers))
 
-  done : writeRowsOutcome t rows cells out ≡ (gives n, left) → Done t rows cells out n left
+  pub done : writeRowsOutcome t rows cells out ≡ (gives n, left) → Done t rows cells out n left
   done e = go (soundColumns 64 t) refl order refl bytes refl e
     where
       room : (b : List ℕ) (d : Bool) → Sound t → rows ≤ 65536 → bytes ≡ gives b
@@ -166,12 +165,12 @@ module _ (ts : List ColumnType) (long : Bool) (rows : ℕ) (cells : Cells) (fine
     numberOf r = getD (cells .numbers) (r * length ts + c) (pos 0)
 
     -- the number that a cell stores
-    record Kept (r : ℕ) : Type 0 where
-      number : ℕ
-      stores : stored (typeAt ts c) long (cell r c) (kindAt r) (numberOf r) ≡ gives number
+    pub record Kept (r : ℕ) : Type 0 where
+      pub number : ℕ
+      pub stores : stored (typeAt ts c) long (cell r c) (kindAt r) (numberOf r) ≡ gives number
       bytes-are : givenBytes (cellsOf r) ≡ bytesOf w number
 
-    kept : (r : ℕ) → refusalOf (cellsOf r) ≡ gives tt → Kept r
+    pub kept : (r : ℕ) → refusalOf (cellsOf r) ≡ gives tt → Kept r
     kept r e = go (stored (typeAt ts c) long (cell r c) (kindAt r) (numberOf r)) refl e
       where
         go : (a : Answer ℕ) → stored (typeAt ts c) long (cell r c) (kindAt r) (numberOf r) ≡ a → refusalOf (onGiven a (λ n. gives (bytesOf w n))) ≡ gives tt → Kept r
@@ -197,7 +196,7 @@ module _ (ts : List ColumnType) (long : Bool) (rows : ℕ) (cells : Cells) (fine
           ∙ equal-at cellsOf w 0 rows r cell-length fine-cells p
           ∙ ap (λ (i : ℕ). givenBytes (cellsOf i)) z
 
-      fine-cell : refusalOf (cellsOf r) ≡ gives tt
+      pub fine-cell : refusalOf (cellsOf r) ≡ gives tt
       fine-cell = let z : 0 + r ≡ r = omega arith in rw z at (each-fine cellsOf 0 rows r fine-cells p)
 
       pub reads-back : cellAt ts long rows all r c ≡ readsAs (kindAt r) (numberOf r)
@@ -227,9 +226,6 @@ none : {A : Type 0} (x : List A) → length x ≡ 0 → x ≡ []
 none [] e = refl
 none (a ∷ x) e = absurd (omega arith)
 
-both-none : {A : Type 0} (x y : List A) → length x ≡ 0 → length y ≡ 0 → x ≡ y
-both-none x y p q = none x p ∙ sym (none y q)
-
 rows-back : (size rows n : ℕ) (b : Bool) → eqb size 0 ≡ b → n ≡ rows * size → b ≡ false → (if b then 0 else n / size) ≡ rows
 rows-back size rows n true e q z = absurd (let y : _≡_ {A = ℕ} 0 1 = cc in omega arith)
 rows-back size rows n false e q z =
@@ -240,8 +236,7 @@ rows-back size rows n false e q z =
     positive zero y = absurd (y refl)
     positive (suc k) y = omega arith
 
-module _ (t : Table) (rows : ℕ) (cells : Cells) (whole : length (t .columns) ≡ 64) (sound : Sound t) (few : rows ≤ 65536) (fine : refusalOf (tableBytes (typesOf t) (t .«long_string_refs») rows cells) ≡ gives tt)
-    (kinds : List ℕ) (numbers : List ℤ) (k : length kinds ≡ rows * t .count) (m : length numbers ≡ rows * t .count) where
+module _ (t : Table) (rows : ℕ) (cells : Cells) (whole : length (t .columns) ≡ 64) (sound : Sound t) (few : rows ≤ 65536) (fine : refusalOf (tableBytes (typesOf t) (t .«long_string_refs») rows cells) ≡ gives tt) where
   abbrev types : List ColumnType
   types = typesOf t
 
@@ -250,10 +245,6 @@ module _ (t : Table) (rows : ℕ) (cells : Cells) (whole : length (t .columns) �
 
   abbrev stream : List ℕ
   stream = plain (columnBytes types long-refs rows cells) 0 (length types)
-
-  abbrev Result : Type 0
-  Result = readRowsOutcome t stream kinds numbers
-      ≡ (gives (rows * t .count), (rowByRow (λ (r c : ℕ). handedBack t cells r c .0) rows (t .count), rowByRow (λ (r c : ℕ). handedBack t cells r c .1) rows (t .count)))
 
   long : length stream ≡ rows * rowSize types long-refs
   long = table-length types long-refs rows cells fine
@@ -266,47 +257,57 @@ module _ (t : Table) (rows : ℕ) (cells : Cells) (whole : length (t .columns) �
   found-rows : (n : ℕ) → rowsIn types long-refs stream ≡ n → n ≤ 65536 → numRowsAnswer t stream ≡ gives n
   found-rows n e h = rw (le-ltb 268435455 (length stream) small, columns-passed t (rowsFound 65536 t stream) (sym (sound .1)), e, le-ltb 65536 n h)
 
+  -- where a row has bytes, all rows are found again
+  all-rows : eqb (rowSize types long-refs) 0 ≡ false → numRowsAnswer t stream ≡ gives rows
+  all-rows e = found-rows rows (rw e (rows-back (rowSize types long-refs) rows (length stream) false e long refl)) few
+
   cell-back : (r c : ℕ) → r < rows → c < t .count → cellAt types long-refs rows stream r c ≡ handedBack t cells r c
   cell-back r c p q =
       let n = types-count t (sound .0) whole in
       reads-back types long-refs rows cells fine c (omega arith) r p
       ∙ ap (λ (x : ℕ). readsAs (getD (cells .kinds) (r * x + c) 0) (getD (cells .numbers) (r * x + c) (pos 0))) n
 
-  by-size : (b : Bool) → eqb (rowSize types long-refs) 0 ≡ b → Result
-  by-size false e =
-      let found = found-rows rows (rw e (rows-back (rowSize types long-refs) rows (length stream) false e long refl)) few in
-      let g = cellAt types long-refs rows stream in
-      let read = read-is t stream rows kinds numbers found (omega arith) (omega arith) in
-      let a = over-all (rowByRow (λ (r c : ℕ). g r c .0) rows (t .count)) kinds (length-grid (λ (r c : ℕ). g r c .0) 0 (t .count) rows ∙ sym k) in
-      let b = over-all (rowByRow (λ (r c : ℕ). g r c .1) rows (t .count)) numbers (length-grid (λ (r c : ℕ). g r c .1) (pos 0) (t .count) rows ∙ sym m) in
-      let x = grid-same (λ (r c : ℕ). g r c .0) (λ (r c : ℕ). handedBack t cells r c .0) 0 rows (t .count) (λ r c p q. ap (λ (v : ℕ × ℤ). v .0) (cell-back r c p q)) in
-      let y = grid-same (λ (r c : ℕ). g r c .1) (λ (r c : ℕ). handedBack t cells r c .1) (pos 0) rows (t .count) (λ r c p q. ap (λ (v : ℕ × ℤ). v .1) (cell-back r c p q)) in
-      read ∙ ap (λ (v : List ℕ × List ℤ). (gives (rows * t .count), v)) (rw (a, b, x, y))
-  by-size true e =
+  pub place-back : (r c : ℕ) → r < rows → c < t .count → readCellAnswer t stream r c ≡ gives (handedBack t cells r c)
+  place-back r c p q =
       let n = types-count t (sound .0) whole in
-      let z = eqb-true (rowSize types long-refs) 0 e in
-      let c : t .count ≡ 0 = omega (arith, size-ge long-refs types) in
-      let q : rows * t .count ≡ 0 = rw (c, mul-zero) in
-      let found = found-rows 0 (rw e) (omega arith) in
-      let g = cellAt types long-refs 0 stream in
-      let y : 0 * t .count ≡ 0 = zero-mul (t .count) in
-      let read = read-is t stream 0 kinds numbers found (omega arith) (omega arith) in
-      let lk = length-grid (λ (r c : ℕ). g r c .0) 0 (t .count) 0 in
-      let ln = length-grid (λ (r c : ℕ). g r c .1) (pos 0) (t .count) 0 in
-      let a = over-all (rowByRow (λ (r c : ℕ). g r c .0) 0 (t .count)) kinds (omega arith) in
-      let b = over-all (rowByRow (λ (r c : ℕ). g r c .1) 0 (t .count)) numbers (omega arith) in
-      let u = both-none (rowByRow (λ (r c : ℕ). g r c .0) 0 (t .count)) (rowByRow (λ (r c : ℕ). handedBack t cells r c .0) rows (t .count)) (omega arith) (length-grid (λ (r c : ℕ). handedBack t cells r c .0) 0 (t .count) rows ∙ q) in
-      let v = both-none (rowByRow (λ (r c : ℕ). g r c .1) 0 (t .count)) (rowByRow (λ (r c : ℕ). handedBack t cells r c .1) rows (t .count)) (omega arith) (length-grid (λ (r c : ℕ). handedBack t cells r c .1) (pos 0) (t .count) rows ∙ q) in
-      let i : 0 * t .count ≡ rows * t .count = omega arith in
-      read ∙ rw (a, b, u, v, i)
+      let some = ne-eqb (rowSize types long-refs) 0 (λ z. omega (arith, size-ge long-refs types)) in
+      rw (all-rows some, lt-ltb r rows p, lt-ltb c (t .count) q, cell-back r c p q)
 
-  pub table-back : Result
-  table-back = by-size (eqb (rowSize types long-refs) 0) refl
+  module _ (kinds : List ℕ) (numbers : List ℤ) (k : rows * t .count ≤ length kinds) (m : rows * t .count ≤ length numbers) where
+    abbrev Result : Type 0
+    Result = readRowsOutcome t stream kinds numbers
+        ≡ (gives (rows * t .count), (rowByRow (λ (r c : ℕ). handedBack t cells r c .0) rows (t .count) over kinds, rowByRow (λ (r c : ℕ). handedBack t cells r c .1) rows (t .count) over numbers))
+
+    by-size : (b : Bool) → eqb (rowSize types long-refs) 0 ≡ b → Result
+    by-size false e =
+        let g = cellAt types long-refs rows stream in
+        let read = read-is t stream rows kinds numbers (all-rows e) k m in
+        let x = grid-same (λ (r c : ℕ). g r c .0) (λ (r c : ℕ). handedBack t cells r c .0) 0 rows (t .count) (λ r c p q. ap (λ (v : ℕ × ℤ). v .0) (cell-back r c p q)) in
+        let y = grid-same (λ (r c : ℕ). g r c .1) (λ (r c : ℕ). handedBack t cells r c .1) (pos 0) rows (t .count) (λ r c p q. ap (λ (v : ℕ × ℤ). v .1) (cell-back r c p q)) in
+        read ∙ rw (x, y)
+    by-size true e =
+        let n = types-count t (sound .0) whole in
+        let z = eqb-true (rowSize types long-refs) 0 e in
+        let c : t .count ≡ 0 = omega (arith, size-ge long-refs types) in
+        let q : rows * t .count ≡ 0 = rw (c, mul-zero) in
+        let found = found-rows 0 (rw e) (omega arith) in
+        let y : 0 * t .count ≡ 0 = zero-mul (t .count) in
+        let read = read-is t stream 0 kinds numbers found (omega arith) (omega arith) in
+        let u = none (rowByRow (λ (r c : ℕ). handedBack t cells r c .0) rows (t .count)) (length-grid (λ (r c : ℕ). handedBack t cells r c .0) 0 (t .count) rows ∙ q) in
+        let v = none (rowByRow (λ (r c : ℕ). handedBack t cells r c .1) rows (t .count)) (length-grid (λ (r c : ℕ). handedBack t cells r c .1) (pos 0) (t .count) rows ∙ q) in
+        read ∙ rw (u, v, y, q)
+
+    pub table-back : Result
+    table-back = by-size (eqb (rowSize types long-refs) 0) refl
+
+-- the bytes that were written
+pub written-bytes : (t : Table) (rows : ℕ) (cells : Cells) (out : List ℕ) (n : ℕ) (left : List ℕ) → Done t rows cells out n left
+    → take n left ≡ plain (columnBytes (typesOf t) (t .«long_string_refs») rows cells) 0 (length (typesOf t))
+written-bytes t rows cells out n left d =
+    let x = givenBytes (tableBytes (typesOf t) (t .«long_string_refs») rows cells) in
+    rw (d .is, d .count) (take-append-seam x (drop (length x) out)) ∙ ap givenBytes (table-given (typesOf t) (t .«long_string_refs») rows cells (d .fine))
 
 pub write-then-read : WriteThenRead
 write-then-read t rows cells out n left kinds numbers whole e k m =
     let d = done t rows cells out n left e in
-    let x = givenBytes (tableBytes (typesOf t) (t .«long_string_refs») rows cells) in
-    let is : take n left ≡ plain (columnBytes (typesOf t) (t .«long_string_refs») rows cells) 0 (length (typesOf t)) =
-    rw (d .is, d .count) (take-append-seam x (drop (length x) out)) ∙ ap givenBytes (table-given (typesOf t) (t .«long_string_refs») rows cells (d .fine)) in
-    rw is (table-back t rows cells whole (d .sound) (d .few) (d .fine) kinds numbers k m)
+    rw (written-bytes t rows cells out n left d) (table-back t rows cells whole (d .sound) (d .few) (d .fine) kinds numbers k m)

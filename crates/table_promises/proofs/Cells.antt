@@ -17,7 +17,7 @@ use Rattle.column_type.specs.inner.Signed.{biased, unbiased}
 use Rattle.column_type.proofs.Halves.{sub-is, near-mag, near-unbiased, biased-lt, biased-some, unbiased-biased, biased-unbiased, integer-given}
 use Rattle.column_type.proofs.Numbers.{integer-number, reference-number}
 use Rattle.column_type.proofs.Cells.{reference-any, reference-short}
-use Rattle.table_promises.specs.Promises.{readsAs, CellReadBack, Int16Kept, Int32Kept, SmallestRefused, FortyThousand}
+use Rattle.table_promises.specs.Promises.{readsAs, CellReadBack}
 
 abbrev nullOr : Bool → ℕ × ℤ → ℕ × ℤ
 nullOr b v = if b then (0, pos 0) else v
@@ -124,17 +124,3 @@ stored-again Int16 long at m n h = int-stored 32768 at m (eqb m 0) refl h
 stored-again Int32 long at m n h = int-stored 2147483648 at m (eqb m 0) refl h
 stored-again (Str max) long at m n h = ref-stored long at m (eqb m 0) refl h
 stored-again Binary long at m n h = bin-stored at m (eqb m 0) refl (n refl)
-
--- ---- integers
-
-pub int16-kept : Int16Kept
-int16-kept long at n m e = (integer-number 32768 at n m e .0, int-back 32768 at n m e)
-
-pub int32-kept : Int32Kept
-int32-kept long at n m e = (integer-number 2147483648 at n m e .0, int-back 2147483648 at n m e)
-
-pub smallest-refused : SmallestRefused
-smallest-refused long r c = (refl, refl)
-
-pub forty-thousand : FortyThousand
-forty-thousand long r c = refl

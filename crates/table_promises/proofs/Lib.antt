@@ -4,4 +4,5 @@ pub mod Agree
 pub mod Pieces
 pub mod Rewritten
 pub mod Back
+pub mod Integers
 pub mod Points

@@ -1,6 +1,9 @@
 -- The points of specs/Points.antt, by computation.
 use mathlib.Core.Path.{refl}
-use Rattle.table_promises.specs.Points.{SmallestInOrder, SmallestBefore7, IconsRewritten}
+use Rattle.table_promises.specs.Points.{LargestWritten, SmallestInOrder, SmallestBefore7, IconsRewritten}
+
+pub largest-written : LargestWritten
+largest-written = (λ out. refl, λ out. refl, refl)
 
 pub smallest-in-order : SmallestInOrder
 smallest-in-order = (λ out. refl, λ out. refl, λ out. refl)

@@ -7,10 +7,9 @@ use native.Mathlib.Nat.{zero-mul, mul-zero, add-zero}
 use native.Mathlib.Omega.{arith}
 use lib.IntN.{ℤ, pos}
 use lib.ListN.{length, getD, take, drop}
-use lib.Seq.{length-take-le, take-all}
+use lib.Seq.{length-take-le, take-all, take-at}
 use borrow.Author.Tests.{le-ltb, eq-eqb}
 use Rattle.common.specs.Answers.{gives, cell}
-use Rattle.common.proofs.Parts.{over-all}
 use Rattle.little_endian.specs.Numbers.{numberAt}
 use Rattle.little_endian.specs.Promises.{AreBytes}
 use Rattle.little_endian.proofs.Laws.{number-lt, write-back}
@@ -91,9 +90,9 @@ read-then-write t s rows kinds numbers out whole bytes small e k n room =
     let lk = length-grid (λ (a b : ℕ). g a b .0) 0 (t .count) rows in
     let ln = length-grid (λ (a b : ℕ). g a b .1) (pos 0) (t .count) rows in
     let count = types-count t (f .sound .0) whole in
-    let read = read-is t s rows kinds numbers e (omega arith) (omega arith) in
-    let ok = over-all (rowByRow (λ (a b : ℕ). g a b .0) rows (t .count)) kinds (lk ∙ sym k) in
-    let on = over-all (rowByRow (λ (a b : ℕ). g a b .1) rows (t .count)) numbers (ln ∙ sym n) in
+    let read = read-is t s rows kinds numbers e k n in
+    let ok = take-at (rowByRow (λ (a b : ℕ). g a b .0) rows (t .count)) (drop (length (rowByRow (λ (a b : ℕ). g a b .0) rows (t .count))) kinds) (rows * t .count) lk in
+    let on = take-at (rowByRow (λ (a b : ℕ). g a b .1) rows (t .count)) (drop (length (rowByRow (λ (a b : ℕ). g a b .1) rows (t .count))) numbers) (rows * t .count) ln in
     let cells : Cells = record { kinds = rowByRow (λ (r c : ℕ). g r c .0) rows (t .count); numbers = rowByRow (λ (r c : ℕ). g r c .1) rows (t .count) } in
     let again = table-again t s rows whole bytes small f in
     let l : length (take (rows * rowSize ts long) s) ≡ rows * rowSize ts long = length-take-le (rows * rowSize ts long) s (holds f) in

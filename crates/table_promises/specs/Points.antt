@@ -22,6 +22,14 @@ both = bitfieldsOutcome (pos 0x502 ∷ pos 0x104 ∷ []) false .1
 abbrev pub Refused : Table → List ℕ → List ℤ → ℕ → Place → Type 0
 Refused t kinds numbers refusal at = (out : List ℕ) → writeRowsOutcome t 2 (record { kinds = kinds; numbers = numbers }) out ≡ (refused refusal at, out)
 
+-- "Int outside the column's width": 40,000 and 32,768 in an Int16 column are 17 at their cell, and 32,767 is written as FF FF
+abbrev pub LargestWritten : Type 0
+LargestWritten =
+    Refused twice (1 ∷ 1 ∷ 1 ∷ 1 ∷ []) (pos 0 ∷ pos 40000 ∷ pos 0 ∷ pos 0 ∷ []) 17 (cell 0 1)
+    × Refused twice (1 ∷ 1 ∷ 1 ∷ 1 ∷ []) (pos 0 ∷ pos 32768 ∷ pos 0 ∷ pos 0 ∷ []) 17 (cell 0 1)
+    × (writeRowsOutcome twice 2 (record { kinds = 1 ∷ 1 ∷ 1 ∷ 1 ∷ []; numbers = pos 0 ∷ pos 32767 ∷ pos 0 ∷ pos 0 ∷ [] }) (replicate 9 0xEE)
+    ≡ (gives 8, 0 ∷ 128 ∷ 0 ∷ 128 ∷ 255 ∷ 255 ∷ 0 ∷ 128 ∷ 0xEE ∷ []))
+
 -- document 02, E2, and 01's order of cells: the smallest at row 0, column 1 and a Str at row 1, column 0: 16 there; the smallest in both: 17 at
 -- the first column; the smallest in the last cell alone: 17 after all others were judged
 abbrev pub SmallestInOrder : Type 0

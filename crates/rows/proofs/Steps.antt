@@ -27,7 +27,7 @@ module _ (t : Table) (s : List ℕ) (at rows : ℕ) (e : numRowsAnswer t s ≡ g
   abbrev g : ℕ → ℕ → ℕ × ℤ
   g = cellAt (typesOf t) (t .«long_string_refs») rows s
 
-  cells-length : length (cellsOf t s rows) ≡ rows * t .count
+  pub cells-length : length (cellsOf t s rows) ≡ rows * t .count
   cells-length = length-grid g (0, pos 0) (t .count) rows
 
   pub step-end : rows * t .count ≤ at → nextOutcome t s at ≡ (gives none, at)
@@ -39,6 +39,10 @@ module _ (t : Table) (s : List ℕ) (at rows : ℕ) (e : numRowsAnswer t s ≡ g
   step-some x h q =
       let l = cells-length in
       rw (e, lt-ltb at (length (cellsOf t s rows)) (omega arith), q)
+
+  -- the place after it, however it is reckoned
+  pub step-to : (x : ℕ × ℤ) (j : ℕ) → at < rows * t .count → getD (cellsOf t s rows) at (0, pos 0) ≡ x → j ≡ at + 1 → (gives (another x), j) ≡ nextOutcome t s at
+  step-to x j h q e = rw e (sym (step-some x h q))
 
   module _ (p : 0 < t .count) where
     pub step-past : rows ≤ at / t .count → rows * t .count ≤ at

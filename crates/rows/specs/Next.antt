@@ -1,7 +1,7 @@
--- Document 01: "A row reader keeps the lent table stream and its place and answers one cell after another, row by row;
--- after the last it answers that there is none, however often asked."
-use Prim.Native.Nat.{ℕ, _+_}
-use mathlib.Core.List.{List}
+-- Document 01: "A row reader keeps the lent table stream and its place and answers one cell after another, row by row, as `Rows` does; after
+-- the last it answers that there is none, however often asked."
+use Prim.Native.Nat.{ℕ, zero, suc, _+_}
+use mathlib.Core.List.{List, [], _∷_}
 use lib.IntN.{ℤ, pos}
 use lib.ListN.{length, getD}
 use Rattle.common.specs.Choice.{if_then_else_, _<?_}
@@ -40,6 +40,18 @@ placeAfter (refused n p) at = at
 
 abbrev pub nextOutcome : Table → List ℕ → ℕ → Answer Next × ℕ
 nextOutcome t s at = (nextAnswer t s at, placeAfter (nextAnswer t s at) at)
+
+-- the place of a reader that is made, by `new`
+abbrev pub beginning : ℕ
+beginning = 0
+
+-- k steps one after another, each from the place that the one before it left: what they answer, and the place after them
+abbrev pub walk : Table → List ℕ → ℕ → ℕ → List (Answer Next) × ℕ
+walk t s at zero = ([], at)
+walk t s at (suc k) =
+    let step = nextOutcome t s at in
+    let others = walk t s (step .1) k in
+    (step .0 ∷ others .0, others .1)
 
 abbrev pub nextAs : NextCell → Answer Next
 nextAs (Cell v) = gives (another (cellAs v))

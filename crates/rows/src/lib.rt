@@ -5,7 +5,7 @@ use table::Counted;
 use table::Table;
 use value::ValueRef;
 ghost use mathlib.Core.Path.{_≡_};
-ghost use Rattle.rows.specs.Next.{stepAs, nextOutcome};
+ghost use Rattle.rows.specs.Next.{stepAs, nextOutcome, beginning};
 
 pub enum NextCell {
     Cell(ValueRef),
@@ -66,7 +66,7 @@ pub struct Rows<'a> {
 }
 
 pub fn new<'a>(stream: &'a [u8]) -> Rows<'a>
-    ensures { λ r. ⌜ (r .stream ≡ stream .entry) × (r .at ≡ 0) ⌝ }
+    ensures { λ r. ⌜ (r .stream ≡ stream .entry) × (r .at ≡ beginning) ⌝ }
 {
     Rows { stream, at: 0 }
 }

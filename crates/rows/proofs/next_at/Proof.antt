@@ -1,5 +1,5 @@
 -- `rows::next_at` meets its contract. Assumes nothing.
-use Rattle.rows.proofs.Steps.{positive, step-end, step-some, step-past, step-cell, step-refused}
+use Rattle.rows.proofs.Steps.{positive, step-end, step-to, step-past, step-cell, step-refused}
 use Rattle.table.proofs.Answers.{found}
 use Rattle.table.specs.Reading.{numRowsAnswer, cellReadAs}
 use Rattle.table.specs.Rows.{cellAt}
@@ -63,7 +63,7 @@ returns-5 c =
     let a = c .before .before .before .before .before .before .before .before .before .before .before .args in
     let h = here (c .before .before .before .before) in
     let e = rw (c .before .read2 .given .1) at (cell-is (c .before .before .before)) in
-    sym (step-some (a .table) (a .stream .now) (a .at) (c .before .before .before .before .before .before .before .counted2 .given .0 .0) (rows-are (c .before .before .before .before .before .before)) _ (h .0) (h .1 ∙ same e))
+    step-to (a .table) (a .stream .now) (a .at) (c .before .before .before .before .before .before .before .counted2 .given .0 .0) (rows-are (c .before .before .before .before .before .before)) _ _ (h .0) (h .1 ∙ same e) (omega arith)
 
 pub next-at-spec : {M : Type 1} → statement M
 next-at-spec =

@@ -1,4 +1,3 @@
-pub mod Bits
 pub mod Cells
 pub mod Agree
 pub mod Pieces

@@ -1,7 +1,7 @@
--- What is promised of columns and tables: what was written reads back, and what was read writes back.
+-- What is promised of cells and tables: what was written reads back, and what was read writes back.
 use Prim.Native.Nat.{ℕ, _+_, _*_, _≤_, _<_}
 use mathlib.Core.Path.{_≡_}
-use mathlib.Core.Bool.{Bool, true, false, _&&_, _||_}
+use mathlib.Core.Bool.{Bool, true, false}
 use mathlib.Core.List.{List}
 use lib.IntN.{ℤ, pos, negsuc, natAbs}
 use lib.ListN.{length, take, getD}
@@ -12,9 +12,6 @@ use Rattle.little_endian.specs.Numbers.{numberAt}
 use Rattle.little_endian.specs.Promises.{AreBytes}
 use Rattle.column_type.specs.declared.form.ColumnType.{ColumnType}
 use Rattle.column_type.specs.declared.form.ColumnType.the-variants.{Int16, Int32, Str, Binary}
-use Rattle.column.specs.declared.column.Column.{Column}
-use Rattle.column.specs.declared.column.ColumnBuilder.{ColumnBuilder}
-use Rattle.column.specs.Columns.{bitsColumn, bitfieldAnswer}
 use Rattle.column.specs.Check.{isBinary}
 use Rattle.column_type.specs.Cells.{stored, unstored}
 use Rattle.table.specs.declared.layout.Table.{Table}
@@ -22,17 +19,6 @@ use Rattle.table.specs.Layout.{typesOf, soundColumns}
 use Rattle.table.specs.Rows.{rowSize, typeAt, cellStart, rowByRow}
 use Rattle.table.specs.Reading.{numRowsAnswer, readCellAnswer, readRowsOutcome}
 use Rattle.table.specs.Writing.{Cells, writeRowsOutcome}
-
--- ---- bits
-
--- "They read back as the same type and marks, except that a Binary column with 0x200 or 0x2000 reads as Str 0";
--- "a nullable mark made earlier survives reading bits"
-abbrev pub typeBack : Column → ColumnType
-typeBack x = if isBinary (x .coltype) && (x .«is_localizable» || x .«is_primary_key») then Str 0 else x .coltype
-
-abbrev pub BitsReadBack : Type 0
-BitsReadBack = (x : Column) (b : ColumnBuilder) (c : ℕ) (n : ℤ) → bitfieldAnswer x ≡ gives n
-    → bitsColumn b c n ≡ gives (record { coltype = typeBack x; «is_localizable» = x .«is_localizable»; «is_nullable» = b .«is_nullable» || x .«is_nullable»; «is_primary_key» = x .«is_primary_key»; «value_range» = b .«value_range» })
 
 -- ---- cells
 

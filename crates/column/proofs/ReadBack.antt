@@ -1,4 +1,4 @@
--- Written bits read back. Assumes nothing.
+-- Written bits read back.
 use mathlib.Core.Path.{_≡_, refl}
 use mathlib.Core.Bool.{Bool, true, false, not, _&&_, _||_}
 use Prim.Native.Nat.{ℕ, _+_, _<_}
@@ -11,11 +11,11 @@ use Rattle.common.specs.Answers.{gives, refused, onGiven}
 use Rattle.common.proofs.Below.{allBelow, each, both}
 use Rattle.column_type.specs.declared.form.ColumnType.{ColumnType}
 use Rattle.column_type.specs.declared.form.ColumnType.the-variants.{Int16, Int32, Str, Binary}
 use Rattle.column.specs.declared.column.ColumnBuilder.{ColumnBuilder}
 use Rattle.column.specs.declared.column.ValueRange.{ValueRange}
 use Rattle.column.specs.Bits.{has, without, size, typeBits}
 use Rattle.column.specs.Columns.{bitsColumn}
-use Rattle.table_promises.specs.Promises.{typeBack, BitsReadBack}
+use Rattle.column.specs.Promises.{typeBack, BitsReadBack}
 
 abbrev marked : Bool → Bool → Bool → ℕ
 marked l u p = (if l then 0x200 else 0) + (if u then 0x1000 else 0) + (if p then 0x2000 else 0)

@@ -1,4 +1,5 @@
--- What a case of document 01's proved table asks, and what it shows, by the definitions of the public calls.
+-- What a case of document 01's proved table asks, what its call answers and leaves, and what of that the table shows; all by the
+-- definitions of the public calls.
 use Prim.Native.Nat.{ℕ}
 use mathlib.Core.Bool.{Bool, false}
 use mathlib.Core.List.{List, map}
@@ -43,7 +44,38 @@ pub data Shown : Type 0 where
   answers : ℤ → Entries → Shown
   refuses : ℕ → Place → Shown
 
--- what a call wrote to its output
+-- ---- the call
+
+-- what it answers, with every room that it was lent
+abbrev pub Outcome : Asked → Type 0
+Outcome (name letters table) = Answer ℕ × List ℕ
+Outcome (written fields rows cells) = Answer ℕ × List ℕ
+Outcome (bits n) = Answer Column
+Outcome (loaded stream texts) = Answer StringPool × Rooms
+Outcome (taken stream texts text) = Answer (ℤ × StringPool) × Rooms
+
+-- rooms for four entries and six bytes, and outputs of eight, that no call has touched yet
+abbrev pub room : Rooms
+room = rooms (replicate 4 0) (replicate 4 0) (replicate 6 0)
+
+abbrev pub output : List ℕ
+output = replicate 8 0
+
+-- "On k": a take on what a load answered and left; where that was refused, its refusal
+abbrev pub takeOn : List ℕ → Answer StringPool × Rooms → Answer (ℤ × StringPool) × Rooms
+takeOn text (gives p, w) = takeOutcome firstFreeOrEqual p w text
+takeOn text (refused n at, w) = (refused n at, w)
+
+abbrev pub called : (asked : Asked) → Outcome asked
+called (name letters table) = encodeOutcome letters table output
+called (written fields rows cells) = writeRowsOutcome (bitfieldsOutcome fields false .1) rows cells output
+called (bits n) = bitsColumn building 0 n
+called (loaded stream texts) = loadOutcome stream texts room
+called (taken stream texts text) = takeOn text (loadOutcome stream texts room)
+
+-- ---- what is shown of it
+
+-- what was written to the output
 abbrev pub unitsIn : Answer ℕ × List ℕ → Shown
 unitsIn (gives n, out) = units (take n out)
 unitsIn (refused n at, out) = refuses n at
@@ -67,22 +99,12 @@ abbrev pub takenIn : Answer (ℤ × StringPool) × Rooms → Shown
 takenIn (gives x, w) = answers (x .0) (entriesIn (x .1) w)
 takenIn (refused n at, w) = refuses n at
 
--- "On k": a take on what a load answered and left
-abbrev pub takeOn : List ℕ → Answer StringPool × Rooms → Shown
-takeOn text (gives p, w) = takenIn (takeOutcome firstFreeOrEqual p w text)
-takeOn text (refused n at, w) = refuses n at
+abbrev pub shownOf : (asked : Asked) → Outcome asked → Shown
+shownOf (name letters table) x = unitsIn x
+shownOf (written fields rows cells) x = bytesIn x
+shownOf (bits n) x = typeIn x
+shownOf (loaded stream texts) x = poolIn x
+shownOf (taken stream texts text) x = takenIn x
 
--- rooms for four entries and six bytes, and outputs of eight, that no call has touched yet
-abbrev pub room : Rooms
-room = rooms (replicate 4 0) (replicate 4 0) (replicate 6 0)
-
-abbrev pub output : List ℕ
-output = replicate 8 0
-
--- what the public calls answer and leave
 abbrev pub answered : Asked → Shown
-answered (name letters table) = unitsIn (encodeOutcome letters table output)
-answered (written fields rows cells) = bytesIn (writeRowsOutcome (bitfieldsOutcome fields false .1) rows cells output)
-answered (bits n) = typeIn (bitsColumn building 0 n)
-answered (loaded stream texts) = poolIn (loadOutcome stream texts room)
-answered (taken stream texts text) = takeOn text (loadOutcome stream texts room)
+answered asked = shownOf asked (called asked)

@@ -1,4 +1,5 @@
-// The thirteen cases of document 01's proved table, run through the public calls. Each answers what specs/Cases.antt says of it.
+// The thirteen cases of document 01's proved table, run through the public calls. Each answers and leaves what the call of
+// its question in specs/Cases.antt does.
 mod names;
 mod pools;
 mod tables;

@@ -2,7 +2,7 @@
 use streamname::Encoded;
 ghost use mathlib.Core.Path.{_≡_};
 ghost use Rattle.streamname.specs.Calls.{encodedAs};
-ghost use Rattle.cases.specs.Shown.{name, unitsIn, answered};
+ghost use Rattle.cases.specs.Shown.{name, called};
 ghost use Rattle.cases.specs.Cases as cases;
 
 // What `encode` answers, and its output.
@@ -12,7 +12,7 @@ pub struct Units {
 }
 
 fn stored(units: &[u16], is_table: bool) -> Units
-    ensures { λ r. ⌜ unitsIn (encodedAs (r .answer), r .out) ≡ answered (name (now (units .entry)) «is_table») ⌝ }
+    ensures { λ r. ⌜ (encodedAs (r .answer), r .out) ≡ called (name (now (units .entry)) «is_table») ⌝ }
 {
     let mut out = [0u16; 8];
     let answer = streamname::encode(units, is_table, &mut out);
@@ -20,28 +20,28 @@ fn stored(units: &[u16], is_table: bool) -> Units
 }
 
 pub fn case_a() -> Units
-    ensures { λ r. ⌜ unitsIn (encodedAs (r .answer), r .out) ≡ cases.a .said ⌝ }
+    ensures { λ r. ⌜ (encodedAs (r .answer), r .out) ≡ called (cases.a .asked) ⌝ }
 {
     let units = [0x41u16, 0x62];
     stored(&units, true)
 }
 
 pub fn case_b() -> Units
-    ensures { λ r. ⌜ unitsIn (encodedAs (r .answer), r .out) ≡ cases.b .said ⌝ }
+    ensures { λ r. ⌜ (encodedAs (r .answer), r .out) ≡ called (cases.b .asked) ⌝ }
 {
     let units = [0x61u16, 0x2D, 0x62];
     stored(&units, false)
 }
 
 pub fn case_c() -> Units
-    ensures { λ r. ⌜ unitsIn (encodedAs (r .answer), r .out) ≡ cases.c .said ⌝ }
+    ensures { λ r. ⌜ (encodedAs (r .answer), r .out) ≡ called (cases.c .asked) ⌝ }
 {
     let units = [0x5Fu16, 0x5F];
     stored(&units, false)
 }
 
 pub fn case_d() -> Units
-    ensures { λ r. ⌜ unitsIn (encodedAs (r .answer), r .out) ≡ cases.d .said ⌝ }
+    ensures { λ r. ⌜ (encodedAs (r .answer), r .out) ≡ called (cases.d .asked) ⌝ }
 {
     let units = [0u16; 0];
     stored(&units, true)

@@ -6,7 +6,7 @@ ghost use mathlib.Core.Path.{_≡_};
 ghost use Rattle.stringpool.specs.Pool.{rooms};
 ghost use Rattle.stringpool.specs.Load.{loadedAs, loadOutcome};
 ghost use Rattle.stringpool.specs.Take.{takenAs};
-ghost use Rattle.cases.specs.Shown.{room, poolIn, takenIn, takeOn};
+ghost use Rattle.cases.specs.Shown.{room, takeOn, called};
 ghost use Rattle.cases.specs.Cases as cases;
 
 // What `load` answers, and the rooms afterwards.
@@ -43,7 +43,7 @@ pub fn loaded(pool: &[u8], texts: &[u8]) -> Pool
 
 // A take on what was loaded.
 pub fn taken_on(pool: Pool, new: &[u8]) -> Take
-    ensures { λ r. ⌜ takenIn (takenAs (r .answer), rooms (r .lengths) (r .counts) (r .text))
+    ensures { λ r. ⌜ (takenAs (r .answer), rooms (r .lengths) (r .counts) (r .text))
         ≡ takeOn (now (new .entry)) (loadedAs (pool .answer), rooms (pool .lengths) (pool .counts) (pool .text)) ⌝ }
 {
     let mut lengths = pool.lengths;
@@ -69,8 +69,8 @@ pub fn taken_on(pool: Pool, new: &[u8]) -> Take
     }
 }
 
-fn load_k() -> Pool
-    ensures { λ r. ⌜ (loadedAs (r .answer), rooms (r .lengths) (r .counts) (r .text)) ≡ loadOutcome cases.kPool cases.kData room ⌝ }
+pub fn case_k() -> Pool
+    ensures { λ r. ⌜ (loadedAs (r .answer), rooms (r .lengths) (r .counts) (r .text)) ≡ called (cases.k .asked) ⌝ }
 {
     let pool = [
         0xE4u8,
@@ -97,14 +97,8 @@ fn load_k() -> Pool
     loaded(&pool, b"Name")
 }
 
-pub fn case_k() -> Pool
-    ensures { λ r. ⌜ poolIn (loadedAs (r .answer), rooms (r .lengths) (r .counts) (r .text)) ≡ cases.k .said ⌝ }
-{
-    load_k()
-}
-
 pub fn case_l() -> Take
-    ensures { λ r. ⌜ takenIn (takenAs (r .answer), rooms (r .lengths) (r .counts) (r .text)) ≡ cases.l .said ⌝ }
+    ensures { λ r. ⌜ (takenAs (r .answer), rooms (r .lengths) (r .counts) (r .text)) ≡ called (cases.l .asked) ⌝ }
 {
-    taken_on(load_k(), b"")
+    taken_on(case_k(), b"")
 }

@@ -1,5 +1,4 @@
 use Rattle.cases.specs.Shown.{takeOn}
-use Rattle.cases.proofs.Cases.{says}
 use mathlib.Core.List.{[]}
 use mathlib.Core.Path.{_∙_, ap}
 use borrow.Author.Needs.{needs}
@@ -7,7 +6,7 @@ use Rattle.cases.proofs.pools.case_l.Statement.{statement}
 use Rattle.cases.proofs.pools.case_l.Tie as tie
 
 returns : tie.Need-returns
-returns c = c .taken-on .ensures ∙ ap (takeOn []) (c .before .before .load-k .ensures) ∙ says 11
+returns c = c .taken-on .ensures ∙ ap (takeOn []) (c .before .before .case-k .ensures)
 
 pub case-l-spec : {M : Type 1} → statement M
 case-l-spec =

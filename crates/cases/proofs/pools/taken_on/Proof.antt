@@ -1,11 +1,9 @@
-use mathlib.Core.Path.{ap}
-use Rattle.cases.specs.Shown.{takenIn}
 use borrow.Author.Needs.{needs}
 use Rattle.cases.proofs.pools.taken_on.Statement.{statement}
 use Rattle.cases.proofs.pools.taken_on.Tie as tie
 
 returns : tie.Need-returns
-returns c = rw (c .before .before .before .before .before .before .before .before .before2 .given .1) (ap takenIn (c .before .before .before .incref .ensures))
+returns c = rw (c .before .before .before .before .before .before .before .before .before2 .given .1) (c .before .before .before .incref .ensures)
 
 pub taken-on-spec : {M : Type 1} → statement M
 taken-on-spec =

@@ -4,6 +4,7 @@ pub mod Parts
 pub mod Plain
 pub mod Layouts
 pub mod Grid
+pub mod Judged
 pub mod Column
 pub mod Answers
 pub mod Bits

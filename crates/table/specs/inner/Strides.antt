@@ -5,8 +5,10 @@ use mathlib.Core.List.{List, [], _∷_, map}
 use lib.IntN.{ℤ, pos}
 use lib.ListN.{length, getD, set}
 use Rattle.common.specs.Lists.{from}
-use Rattle.common.specs.Answers.{Answer, gives, cell, onGiven, each, refusalOf}
+use Rattle.common.specs.Answers.{Place, Answer, gives, cell, onGiven, each, refusalOf}
 use Rattle.little_endian.specs.Numbers.{numberAt, bytesOf}
+use Rattle.value.specs.declared.Cell.{Cell}
+use Rattle.value.specs.Handed.{handedKind, handedNumber}
 use Rattle.column_type.specs.declared.form.CellForm.{CellForm}
 use Rattle.column_type.specs.Cells.{width, stored, unstored}
 use Rattle.column_type.specs.Forms.{typeIn, longIn}
@@ -43,6 +45,18 @@ pub record Storable (f : CellForm) (kinds : List ℕ) (numbers : List ℤ) (run 
   pub handed : Handed (length kinds) (length numbers) run
   pub room : run .rows * formWidth f ≤ out
   pub fine : refusalOf (each (cellNumber f kinds numbers run) (from 0 (run .rows))) ≡ gives tt
+
+-- what one cell stores, or why it cannot be stored
+abbrev pub formStored : CellForm → Cell → Place → Answer ℕ
+formStored f v at = stored (typeIn f) (longIn f) at (handedKind v) (handedNumber v)
+
+-- it was judged at some place and can be stored
+abbrev pub Judged : (Place → Answer ℕ) → Type 0
+Judged answer = (at : Place) × (refusalOf (answer at) ≡ gives tt)
+
+-- as this number, at every place
+abbrev pub Numbered : (Place → Answer ℕ) → ℕ → Type 0
+Numbered answer n = (at : Place) → answer at ≡ gives n
 
 -- ---- reading
 

@@ -3,9 +3,9 @@ use Rattle.table.proofs.Each.{from-next, fine-first}
 use Rattle.table.proofs.Plain.{plain-turn, plain-end}
 use Rattle.table.proofs.Strides.{next-le, next-is}
 use Rattle.table.specs.inner.Columns.{givenBytes, plain}
-use Rattle.table.specs.inner.Strides.{formWidth, cellNumber, formBytes}
+use Rattle.table.specs.inner.Strides.{formWidth, cellNumber, formBytes, formStored}
 use Rattle.column_type.proofs.Numbers.{handed-stored}
-use Rattle.column_type.specs.Forms.{typeIn, longIn, storedAs}
+use Rattle.column_type.specs.Forms.{typeIn, longIn}
 use Rattle.value.specs.Handed.{cellOf}
 use Rattle.little_endian.proofs.Laws.{length-bytes, written}
 use Rattle.little_endian.specs.Numbers.{bytesOf}
@@ -28,14 +28,14 @@ use Rattle.table.proofs.column_write.write_cells.Statement.{statement}
 use Rattle.table.proofs.column_write.write_cells.Tie as tie
 
 abbrev Inv-loop : tie.InvT-loop
-Inv-loop form kinds numbers out₀ width column step rows cell₀ at₀ row₀ out cell at row =
-    (row ≤ rows) × (cell ≡ row * step + column) × (at ≡ row * width) × (length out ≡ length out₀)
-    × (overAt at (plain (formBytes form kinds numbers (record { column = column; step = step; rows = rows })) row (rows - row)) out
-    ≡ plain (formBytes form kinds numbers (record { column = column; step = step; rows = rows })) 0 rows over out₀)
-    × (refusalOf (each (cellNumber form kinds numbers (record { column = column; step = step; rows = rows })) (from row (rows - row))) ≡ gives tt)
+Inv-loop form kinds numbers out₀ width step rows cell₀ at₀ row₀ out cell at row =
+    (row ≤ rows) × (cell ≡ row * step + cell₀) × (at ≡ row * width) × (length out ≡ length out₀)
+    × (overAt at (plain (formBytes form kinds numbers (record { column = cell₀; step = step; rows = rows })) row (rows - row)) out
+    ≡ plain (formBytes form kinds numbers (record { column = cell₀; step = step; rows = rows })) 0 rows over out₀)
+    × (refusalOf (each (cellNumber form kinds numbers (record { column = cell₀; step = step; rows = rows })) (from row (rows - row))) ≡ gives tt)
 
 abbrev μ-loop : tie.MeasureT-loop
-μ-loop form kinds numbers out₀ width column step rows cell₀ at₀ row₀ out cell at row = rows - row
+μ-loop form kinds numbers out₀ width step rows cell₀ at₀ row₀ out cell at row = rows - row
 
 abbrev numberIn : (c : tie.Start Inv-loop μ-loop) → ℕ → Answer ℕ
 numberIn c = cellNumber (c .args .form) (c .args .kinds .now) (c .args .numbers .now) (c .args .run)
@@ -65,18 +65,20 @@ fine-now c =
     fine-first (numberIn (c .before .before .before .before .before)) (l .row) (from (l .row + 1) (rows - (l .row + 1))) (rw (from-next (l .row) rows (c .loop-test .taken)) at (l .inv .5))
 
 -- what it stores
-number-is : (c : tie.After-stored Inv-loop μ-loop) → storedAs (c .stored .result) ≡ numberIn (c .before .before .before .before .before .before .before .before .before) (c .before .before .before .before .before .loop .row)
-number-is c =
-    let a = c .before .before .before .before .before .before .before .before .before .args in
-    let l = c .before .before .before .before .before .loop in
+stored-is : (c : tie.After-new Inv-loop μ-loop)
+    → let a = c .before .before .before .before .before .before .before .before .args in
+    let row = c .before .before .before .before .loop .row in formStored (a .form) (c .new .result) (placeOf row (a .run .column)) ≡ numberIn (c .before .before .before .before .before .before .before .before) row
+stored-is c =
+    let a = c .before .before .before .before .before .before .before .before .args in
+    let l = c .before .before .before .before .loop in
     let i = l .row * a .run .step + a .run .column in
     let k = getD (a .kinds .now) i 0 in
     let z = getD (a .numbers .now) i (pos 0) in
     let same : getD (a .kinds .now) (l .cell) 0 ≡ k = ap (λ (j : ℕ). getD (a .kinds .now) j 0) (l .inv .1) in
     let same-number : getD (a .numbers .now) (l .cell) (pos 0) ≡ z = ap (λ (j : ℕ). getD (a .numbers .now) j (pos 0)) (l .inv .1) in
-    let at = toZ-ofZ {w = w32} {z = getD (a .numbers .now) (l .cell) (pos 0)} (record { sfits = c .before .before .number .given }) in
-    let made : c .before .new .result ≡ cellOf k z = rw (at, same, same-number) at (c .before .new .ensures) in
-    rw made at (c .stored .ensures) ∙ handed-stored (longIn (a .form)) (placeOf (l .row) (a .run .column)) (typeIn (a .form)) k z
+    let at = toZ-ofZ {w = w32} {z = getD (a .numbers .now) (l .cell) (pos 0)} (record { sfits = c .before .number .given }) in
+    let made : c .new .result ≡ cellOf k z = rw (at, same, same-number) at (c .new .ensures) in
+    rw made (handed-stored (longIn (a .form)) (placeOf (l .row) (a .run .column)) (typeIn (a .form)) k z)
 
 loop-holds : tie.Need-loop-holds Inv-loop μ-loop
 loop-holds c = (omega arith, rw zero-mul (omega arith), rw zero-mul, refl, rw sub-zero, rw sub-zero (c .before .before .before .pre .fine))
@@ -92,43 +94,41 @@ mul-number c =
 shared-slice-copy-out-number : tie.Need-shared-slice-copy-out-number Inv-loop μ-loop
 shared-slice-copy-out-number c = rw (c .before .before .before .before .before .before .pre .handed .numbers-are) (rw (c .before .before .before .before .before .before .pre .handed .kinds-are) at (cell-in (c .before) .0))
 
--- the `else` is not met
-returns : tie.Need-returns Inv-loop μ-loop
-returns c = absurd (
-    let e = sym (fine-now (c .before .before .before .before .before .before) .0) ∙ ap refusalOf (sym (number-is (c .before .before)) ∙ ap storedAs (c .enum-told .given .1)) in
-    let y : _≡_ {A = ℕ} 0 1 = cc in omega arith)
+-- it was judged
+number-of-requires : tie.Need-number-of-requires Inv-loop μ-loop
+number-of-requires c κs = (placeOf (c .before .before .before .before .loop .row) (c .before .before .before .before .before .before .before .before .args .run .column), ap refusalOf (stored-is c) ∙ fine-now (c .before .before .before) .0)
 
 add-end : tie.Need-add-end Inv-loop μ-loop
-add-end c = omega (arith, room (c .before .before .before .before .before .before .before))
+add-end c = omega (arith, room (c .before .before .before .before))
 
 sub-write : tie.Need-sub-write Inv-loop μ-loop
-sub-write c = omega (arith, room (c .before .before .before .before .before .before .before))
+sub-write c = omega (arith, room (c .before .before .before .before))
 
 part-write-start : tie.Need-part-write-start Inv-loop μ-loop
-part-write-start c = omega (arith, room (c .before .before .before .before .before .before .before))
+part-write-start c = omega (arith, room (c .before .before .before .before))
 
 part-write-end : tie.Need-part-write-end Inv-loop μ-loop
-part-write-end c = omega (arith, room (c .before .before .before .before .before .before .before))
+part-write-end c = omega (arith, room (c .before .before .before .before))
 
 add-cell : tie.Need-add-cell Inv-loop μ-loop
-add-cell c = record { fits = cell-in (c .before .before .before .before .before .before .before .before .before .before .before) .1 }
+add-cell c = record { fits = cell-in (c .before .before .before .before .before .before .before .before) .1 }
 
 loop-again : tie.Need-loop-again Inv-loop μ-loop
 loop-again c =
-    let a = c .before .before .before .before .before .before .before .before .before .before .before .before .before .before .before .before .args in
-    let l = c .before .before .before .before .before .before .before .before .before .before .before .before .loop in
+    let a = c .before .before .before .before .before .before .before .before .before .before .before .before .before .args in
+    let l = c .before .before .before .before .before .before .before .before .before .loop in
     let f = formBytes (a .form) (a .kinds .now) (a .numbers .now) (a .run) in
-    let w = c .before .before .before .before .before .before .before .before .before .before .before .before .before .width .result in
-    let n = c .before .before .before .before .before .stored2 .given .0 .0 in
+    let w = c .before .before .before .before .before .before .before .before .before .before .width .result in
+    let n = c .before .before .before .before .number-of .result in
     let bytes = givenBytes (f (l .row)) in
     let rest = plain f (l .row + 1) (a .run .rows - (l .row + 1)) in
-    let more = room (c .before .before .before .before .before .before .before .before .before .before .before) in
+    let more = room (c .before .before .before .before .before .before .before .before) in
     let k = l .at + w - l .at in
     let ke : k ≡ w = omega arith in
     let part = take k (drop (l .at) (l .out)) in
     let long : length part ≡ k = length-take-le k (drop (l .at) (l .out)) (rw length-drop (omega arith)) in
-    let stores : numberIn (c .before .before .before .before .before .before .before .before .before .before .before .before .before .before .before .before) (l .row) ≡ gives n = sym (number-is (c .before .before .before .before .before .before .before)) ∙ ap storedAs (c .before .before .before .before .before .stored2 .given .1) in
-    let is : bytesOf w n ≡ bytes = rw (c .before .before .before .before .before .before .before .before .before .before .before .before .before .width .ensures) (sym (ap (λ (x : Answer ℕ). givenBytes (onGiven x (λ m. gives (bytesOf (formWidth (a .form)) m)))) stores)) in
+    let stores : numberIn (c .before .before .before .before .before .before .before .before .before .before .before .before .before) (l .row) ≡ gives n = sym (stored-is (c .before .before .before .before .before)) ∙ c .before .before .before .before .number-of .ensures (placeOf (l .row) (a .run .column)) in
+    let is : bytesOf w n ≡ bytes = rw (c .before .before .before .before .before .before .before .before .before .before .width .ensures) (sym (ap (λ (x : Answer ℕ). givenBytes (onGiven x (λ m. gives (bytesOf (formWidth (a .form)) m)))) stores)) in
     let size : length bytes ≡ w = ap length (sym is) ∙ length-bytes w n in
     let done = written n w part 0 (overAt 0 (bytesOf w n) part) (omega arith) refl in
     let put : c .before .before .write .last .1 .1 .0 ≡ bytes over part =
@@ -140,13 +140,13 @@ loop-again c =
       rw next-is (omega arith),
       same-len-mid (l .at) k (l .out) (c .before .before .write .last .1 .1 .0) (c .before .before .write .kept .1 .1 .0) ∙ l .inv .3,
       rw left (over-next bytes rest (l .out) (l .at) w (omega arith) size)
-          ∙ ap (λ (x : List ℕ). overAt (l .at) x (l .out)) (sym (plain-turn f (l .row) (a .run .rows) (c .before .before .before .before .before .before .before .before .before .before .before .loop-test .taken)))
+          ∙ ap (λ (x : List ℕ). overAt (l .at) x (l .out)) (sym (plain-turn f (l .row) (a .run .rows) (c .before .before .before .before .before .before .before .before .loop-test .taken)))
           ∙ l .inv .4,
-      fine-now (c .before .before .before .before .before .before .before .before .before .before .before) .1,
+      fine-now (c .before .before .before .before .before .before .before .before) .1,
     )
 
-returns-2 : tie.Need-returns-2 Inv-loop μ-loop
-returns-2 c =
+returns : tie.Need-returns Inv-loop μ-loop
+returns c =
     let l = c .before .loop in
     let a = c .before .before .before .before .before .args in
     sym (over-none (l .at) (l .out)) ∙ rw (plain-end (formBytes (a .form) (a .kinds .now) (a .numbers .now) (a .run)) (l .row) (a .run .rows) (c .loop-test .left)) at (l .inv .4)
@@ -163,11 +163,7 @@ write-cells-spec =
     mul-number
     shared-slice-copy-out-number
     (λ c κs. tt)
-    (λ c κs. tt)
-    (λ c. search needs)
-    (λ c. search needs)
-    (λ c. omega arith)
-    returns
+    number-of-requires
     add-end
     sub-write
     part-write-start
@@ -178,4 +174,4 @@ write-cells-spec =
     (λ c. omega arith)
     loop-again
     (λ c. omega arith)
-    returns-2)
+    returns)

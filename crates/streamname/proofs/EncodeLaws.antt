@@ -82,10 +82,11 @@ module _ (name : List ℕ) (at : ℕ) (here : at < length name) where
             moves = omega arith;
           }
 
-      pub front-pair : (b : ℕ) → toB64 (getD name (at + 1) 0) ≡ some b → Front name at (record { unit = 0x3800 + 64 * b + a; used = 2 })
-      front-pair b f =
+      -- the pair's unit, however it is reckoned
+      pub front-pair : (b unit : ℕ) → toB64 (getD name (at + 1) 0) ≡ some b → unit ≡ 0x3800 + 64 * b + a → Front name at (record { unit = unit; used = 2 })
+      front-pair b unit f is =
           record {
-            packs = rw (two, paired _ a _ b _ e f);
+            packs = rw (two, paired _ a _ b _ e f, is);
             judged = rw (two, letter-allowed _ a e, letter-allowed _ b f);
             within = omega arith;
             moves = omega arith;

@@ -41,7 +41,7 @@ add-t17 : tie.Need-add-t17
 add-t17 c = omega (arith, letter-below _ _ (a-is (c .before .before .before .before .before .before)), letter-below _ _ (b-is c))
 
 returns-4 : tie.Need-returns-4
-returns-4 c = front-pair _ _ (c .before .before .before .before .before .before .before .before .before .before .before .before .pre .0) _ (a-is (c .before .before .before .before .before .before)) (c .before .before .before .before .before .if1 .left) _ (b-is c)
+returns-4 c = front-pair _ _ (c .before .before .before .before .before .before .before .before .before .before .before .before .pre .0) _ (a-is (c .before .before .before .before .before .before)) (c .before .before .before .before .before .if1 .left) _ _ (b-is c) (omega arith)
 
 pub pack-spec : {M : Type 1} → statement M
 pack-spec =

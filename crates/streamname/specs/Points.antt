@@ -15,8 +15,8 @@ use Rattle.streamname.specs.Promises.{Coded}
 abbrev pub Stored : List ℕ → Bool → List ℕ → Type 0
 Stored name table units = encodedName name table ≡ units
 
--- "Two such units a, b become 0x3800 + 64b + a, taken greedily; a lone one 0x4800 + a; others pass": "abc" is a pair and a lone one, not a
--- lone one and a pair; so is "cde" behind a dash, and "ab" and "cd" are two pairs
+-- "Two such units a, b become 0x3800 + 64b + a, taken greedily; a lone one 0x4800 + a; others pass": `abc` is a pair and a lone one, not a
+-- lone one and a pair; so is `cde` behind a dash, and `ab` and `cd` are two pairs
 abbrev pub Greedy : Type 0
 Greedy = Stored (0x61 ∷ 0x62 ∷ 0x63 ∷ []) false (0x4164 ∷ 0x4826 ∷ [])
     × Stored (0x61 ∷ 0x62 ∷ 0x2D ∷ 0x63 ∷ 0x64 ∷ 0x65 ∷ []) false (0x4164 ∷ 0x002D ∷ 0x41E6 ∷ 0x4828 ∷ [])

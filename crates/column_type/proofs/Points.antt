@@ -1,6 +1,33 @@
 -- The points of specs/Points.antt, by computation.
 use mathlib.Core.Path.{refl}
-use Rattle.column_type.specs.Points.{Int16Bounds, Int32Bounds, KindFirst, NullNumber, ReadAsBefore, BinaryRead, BinaryWritten, BinaryRefused}
+use Rattle.column_type.specs.Points.{ReferenceBounds, ShortBounds, RangeBeforeShort, KindBeforeReference, KindBeforeRange, MaximumBounds, NullStored, BytesOfEach, ReadAgain, Int16Bounds, Int32Bounds, KindFirst, NullNumber, ReadAsBefore, BinaryRead, BinaryWritten, BinaryRefused}
+
+pub reference-bounds : ReferenceBounds
+reference-bounds = (λ m a. refl, λ m a. refl, λ m a. refl, λ m a. refl, λ m a. refl, λ m a. refl, λ m a. refl)
+
+pub short-bounds : ShortBounds
+short-bounds = (λ m a. refl, λ m a. refl, λ m a. refl, λ m a. refl)
+
+pub range-before-short : RangeBeforeShort
+range-before-short = λ m a. refl
+
+pub kind-before-reference : KindBeforeReference
+kind-before-reference = (λ l m a. refl, λ l m a. refl, λ l m a. refl, λ m a. refl, λ m a. refl)
+
+pub kind-before-range : KindBeforeRange
+kind-before-range = (λ l a. refl, λ l a. refl, λ l a. refl, λ l a. refl)
+
+pub maximum-bounds : MaximumBounds
+maximum-bounds = (λ c. refl, λ c. refl, λ c l. refl)
+
+pub null-stored : NullStored
+null-stored = λ n. (λ l a. refl, λ l a. refl, λ m l a. refl, λ l a. refl)
+
+pub bytes-of-each : BytesOfEach
+bytes-of-each = (λ a. refl, λ a. refl, λ a. refl, λ a. refl, λ a. refl, λ a. refl, λ a. refl, λ a. refl, λ a. refl)
+
+pub read-again : ReadAgain
+read-again = (refl, refl, refl, refl, refl, refl, refl, refl)
 
 pub int16-bounds : Int16Bounds
 int16-bounds = (λ l a. refl, λ l a. refl, λ l a. refl, λ l a. refl, λ l a. refl)

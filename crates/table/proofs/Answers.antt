@@ -1,13 +1,13 @@
 -- What the calls answer, at each of their tests. Assumes nothing.
-use mathlib.Core.Path.{_≡_, refl, sym}
+use mathlib.Core.Path.{_≡_, refl, sym, ap, _∙_}
 use mathlib.Core.Bool.{Bool, true, false}
 use mathlib.Core.List.{List}
 use Prim.Native.Nat.{ℕ, _*_, _/_, _<_, _≤_}
 use native.Mathlib.Nat.{div-mul-le-self, zero-mul}
 use native.Mathlib.Omega.{arith}
 use lib.Dec.{ltb, eqb}
-use borrow.Author.Tests.{lt-ltb, le-ltb, ltb-false}
-use lib.ListN.{length}
+use borrow.Author.Tests.{lt-ltb, le-ltb, ltb-false, ne-eqb}
+use lib.ListN.{length, getD, take}
 use Rattle.order.specs.Order.{bulkFits}
 use Rattle.common.specs.Choice.{if_then_else_}
 use Rattle.common.specs.Lists.{_over_}
@@ -19,10 +19,10 @@ use Rattle.table.specs.Layout.{typesOf, soundColumns}
 use Rattle.table.specs.Rows.{rowSize, rowsIn}
 use Rattle.table.specs.Reading.{numRowsAnswer}
 use Rattle.table.specs.Writing.{Cells, columnBytes, tableBytes, writtenRows}
-use Rattle.table.specs.inner.Layout.{Sound}
+use Rattle.table.specs.inner.Layout.{Sound, rowsFor, layoutOf}
 use Rattle.table.specs.inner.Columns.{plain}
 use Rattle.table.proofs.Each.{refused-is}
-use Rattle.table.proofs.Layouts.{judged-sound}
+use Rattle.table.proofs.Layouts.{judged-sound, types-count, start-at, column-in, size-le, size-some}
 use Rattle.table.proofs.Column.{table-given, table-length}
 
 -- ---- the rows of a stream
@@ -54,8 +54,32 @@ rows-within : (size n rows : ℕ) (b : Bool) → eqb size 0 ≡ b → rows ≡ (
 rows-within size n rows true e q = rw (q, zero-mul) (omega arith)
 rows-within size n rows false e q = rw q (div-mul-le-self n size)
 
+pub rows-hold : (t : Table) (s : List ℕ) → rowsFor t s * rowSize (typesOf t) (t .«long_string_refs») ≤ length s
+rows-hold t s = rows-within (rowSize (typesOf t) (t .«long_string_refs»)) (length s) (rowsFor t s) (eqb (rowSize (typesOf t) (t .«long_string_refs»)) 0) refl refl
+
 pub holds : {t : Table} {s : List ℕ} {rows : ℕ} → Found t s rows → rows * rowSize (typesOf t) (t .«long_string_refs») ≤ length s
-holds {t} {s} {rows} f = rows-within (rowSize (typesOf t) (t .«long_string_refs»)) (length s) rows (eqb (rowSize (typesOf t) (t .«long_string_refs»)) 0) refl (f .is)
+holds {t} {s} {rows} f = rw (f .is) (rows-hold t s)
+
+-- and where there is a column they are the whole part of the quotient
+pub rows-are : (t : Table) (s : List ℕ) (c : ℕ) → c < length (typesOf t) → length s / rowSize (typesOf t) (t .«long_string_refs») ≡ rowsFor t s
+rows-are t s c h = rw (gt-eqb (rowSize (typesOf t) (t .«long_string_refs»)) (size-some (t .«long_string_refs») (typesOf t) c h))
+  where
+    gt-eqb : (n : ℕ) → 0 < n → eqb n 0 ≡ false
+    gt-eqb n p = ne-eqb n 0 (λ e. omega arith)
+
+-- where a column begins, as it is found from the stream's length and the layout's arrays
+module _ (t : Table) (s : List ℕ) (few : t .count ≤ 64) (e : length (t .columns) ≡ 64) (c : ℕ) (h : c < t .count) where
+  abbrev long : Bool
+  long = t .«long_string_refs»
+
+  in-use : c < length (typesOf t)
+  in-use = rw (types-count t few e) h
+
+  pub start-asked : length s ≤ 268435455 → (length s ≤ 268435455) × (0 < layoutOf t .«row_size») × (getD (layoutOf t .starts) c 0 ≤ 256)
+  start-asked small = (small, size-some long (typesOf t) c in-use, rw (start-at t few e c h) (omega (arith, column-in long (typesOf t) c in-use, size-le long (typesOf t), types-count t few e)))
+
+  pub start-found : length s / layoutOf t .«row_size» * getD (layoutOf t .starts) c 0 ≡ rowsFor t s * rowSize (take c (typesOf t)) long
+  start-found = ap (λ (n : ℕ). n * getD (layoutOf t .starts) c 0) (rows-are t s c in-use) ∙ ap (λ (n : ℕ). rowsFor t s * n) (start-at t few e c h)
 
 -- ---- a bulk write
 

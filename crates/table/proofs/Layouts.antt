@@ -6,7 +6,7 @@ use Prim.Native.Nat.{ℕ, zero, suc, _+_, _*_, _<_, _≤_}
 use native.Mathlib.Nat.{not-suc-le-zero, le-of-suc-le-suc, add-zero, zero-add}
 use native.Mathlib.Numerals.{add-one}
 use native.Mathlib.Omega.{arith}
-use lib.Dec.{ltb}
+use lib.Dec.{ltb, lit≤}
 use borrow.Author.Tests.{le-ltb}
 use lib.ListN.{length, getD, take, drop, set, length-map, List·getD-append, drop-of-length-le}
 use lib.Seq.{getD-take, length-take-le, slice-cons}
@@ -119,6 +119,13 @@ judged-sound t e = (few-columns (t .count) (ltb 64 (t .count)) refl (eachAt soun
 getD-over : (l : List ℕ) (c : ℕ) → c < length l → getD (l over zeros) c 0 ≡ getD l c 0
 getD-over l c h = List·getD-append l (drop (length l) zeros) 0 c h
 
+width-some : (t : ColumnType) (long : Bool) → 0 < width t long
+width-some Int16 long = lit≤ tt
+width-some Int32 long = lit≤ tt
+width-some (Str max) true = lit≤ tt
+width-some (Str max) false = lit≤ tt
+width-some Binary long = lit≤ tt
+
 module _ (long : Bool) where
   length-starts : (at : ℕ) (ws : List ℕ) → length (startsFrom at ws) ≡ length ws
   length-starts at [] = refl
@@ -138,6 +145,10 @@ module _ (long : Bool) where
   column-in [] c h = absurd (not-suc-le-zero h)
   column-in (t ∷ ts) zero h = omega arith
   column-in (t ∷ ts) (suc c) h = omega (arith, column-in ts c (le-of-suc-le-suc h))
+
+  -- a table with a column has a row size
+  pub size-some : (ts : List ColumnType) (c : ℕ) → c < length ts → 0 < rowSize ts long
+  size-some ts c h = omega (arith, column-in ts c h, width-some (typeAt ts c) long)
 
   pub size-le : (ts : List ColumnType) → rowSize ts long ≤ 4 * length ts
   size-le [] = omega arith

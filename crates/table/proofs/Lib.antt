@@ -8,3 +8,4 @@ pub mod Judged
 pub mod Column
 pub mod Answers
 pub mod Bits
+pub mod Points

@@ -2,4 +2,5 @@ pub mod Layout
 pub mod Rows
 pub mod Reading
 pub mod Writing
+pub mod Points
 pub mod inner

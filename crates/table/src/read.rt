@@ -19,9 +19,9 @@ ghost use Rattle.common.specs.Choice.{if_then_else_, _=?_};
 ghost use Rattle.common.specs.Lists.{_over_};
 ghost use Rattle.value.specs.Kinds.{cellAs};
 ghost use Rattle.table.specs.Layout.{typesOf};
-ghost use Rattle.table.specs.Rows.{rowSize, cellAt, rowByRow};
+ghost use Rattle.table.specs.Rows.{cellAt, rowByRow};
 ghost use Rattle.table.specs.Reading.{numRowsAnswer, readCellAnswer, readRowsOutcome, countedAs, cellReadAs};
-ghost use Rattle.table.specs.inner.Layout.{Sound, layoutOf};
+ghost use Rattle.table.specs.inner.Layout.{Sound, Few, rowsFor, layoutOf};
 ghost use Rattle.table.specs.inner.Columns.{rowsFrom};
 
 pub enum CellRead {
@@ -69,7 +69,7 @@ impl Table {
                 if let Fits::Refused(refusal) = fits {
                     return CellRead::Refused(refusal);
                 }
-                CellRead::Value(cell_in(self, rows, row, column, stream))
+                CellRead::Value(cell_in(self, row, column, stream))
             }
         }
     }
@@ -105,20 +105,28 @@ fn rows_of(row_size: usize, bytes: usize) -> usize
     bytes / row_size
 }
 
-// The cell at a row and a column, whose bytes lie within the complete rows.
-fn cell_in(table: Table, rows: usize, row: usize, column: usize, stream: &[u8]) -> ValueRef
-    requires { ⌜ Sound table × (rows ≤ 65536) × (row < rows) × (column < table .count) ⌝ }
-    ensures { λ r. ⌜ cellAs r ≡ cellAt (typesOf table) (table .«long_string_refs») rows (now (stream .entry)) row column ⌝ }
+// Where a column begins: for each complete row of so many bytes, the widths before the column.
+fn column_start(bytes: usize, row_size: usize, before: usize) -> usize
+    requires { ⌜ (bytes ≤ 268435455) × (0 < «row_size») × (before ≤ 256) ⌝ }
+    ensures { λ r. ⌜ r ≡ bytes / «row_size» * before ⌝ }
+{
+    bytes / row_size * before
+}
+
+// The cell at a row and a column of the table.
+fn cell_in(table: Table, row: usize, column: usize, stream: &[u8]) -> ValueRef
+    requires { ⌜ Sound table × Few table (now stream) × (row < rowsFor table (now stream)) × (column < table .count) ⌝ }
+    ensures { λ r. ⌜ cellAs r ≡ cellAt (typesOf table) (table .«long_string_refs») (rowsFor table (now (stream .entry))) (now (stream .entry)) row column ⌝ }
 {
     let arrays = layout::layout_of(table);
-    let start = arrays.starts[column];
+    let start = column_start(stream.len(), arrays.row_size, arrays.starts[column]);
     let width = arrays.widths[column];
-    layout::form_at(table, column).read_value(stream, rows * start + row * width)
+    layout::form_at(table, column).read_value(stream, start + row * width)
 }
 
 // Reads the rows band after band: the cells of a band stay near while its columns are read one after the other.
 fn read_bands(table: Table, rows: usize, stream: &[u8], kinds: &mut [u8], numbers: &mut [i32])
-    requires { ⌜ Sound table × (rows ≤ 65536) × (rows * rowSize (typesOf table) (table .«long_string_refs») ≤ length (now stream)) × (rows * table .count ≤ length (now kinds)) × (rows * table .count ≤ length (now numbers)) ⌝ }
+    requires { ⌜ Sound table × Few table (now stream) × (rows ≡ rowsFor table (now stream)) × (rows * table .count ≤ length (now kinds)) × (rows * table .count ≤ length (now numbers)) ⌝ }
     ensures { λ r. ⌜ (now (kinds .exit) ≡ rowByRow (λ i c. cellAt (typesOf table) (table .«long_string_refs») rows (now (stream .entry)) i c .0) rows (table .count) over now (kinds .entry)) × (now (numbers .exit) ≡ rowByRow (λ i c. cellAt (typesOf table) (table .«long_string_refs») rows (now (stream .entry)) i c .1) rows (table .count) over now (numbers .entry)) ⌝ }
 {
     let count = table.count;
@@ -132,7 +140,6 @@ fn read_bands(table: Table, rows: usize, stream: &[u8], kinds: &mut [u8], number
         read_columns(
             table,
             arrays,
-            rows,
             band,
             stream,
             &mut kinds[at..end],
@@ -153,34 +160,27 @@ fn near(left: usize) -> usize
 fn read_columns(
     table: Table,
     arrays: Layout,
-    rows: usize,
     band: Band,
     stream: &[u8],
     kinds: &mut [u8],
     numbers: &mut [i32],
 )
-    requires { ⌜ Sound table × (arrays ≡ layoutOf table) × (rows ≤ 65536) × (band .first + band .rows ≤ rows) × (rows * rowSize (typesOf table) (table .«long_string_refs») ≤ length (now stream)) × (length (now kinds) ≡ band .rows * table .count) × (length (now numbers) ≡ band .rows * table .count) ⌝ }
-    ensures { λ r. ⌜ (now (kinds .exit) ≡ rowsFrom (λ i c. cellAt (typesOf table) (table .«long_string_refs») rows (now (stream .entry)) i c .0) (table .count) (band .first) (band .rows)) × (now (numbers .exit) ≡ rowsFrom (λ i c. cellAt (typesOf table) (table .«long_string_refs») rows (now (stream .entry)) i c .1) (table .count) (band .first) (band .rows)) ⌝ }
+    requires { ⌜ Sound table × (arrays ≡ layoutOf table) × Few table (now stream) × (band .first + band .rows ≤ rowsFor table (now stream)) × (length (now kinds) ≡ band .rows * table .count) × (length (now numbers) ≡ band .rows * table .count) ⌝ }
+    ensures { λ r. ⌜ (now (kinds .exit) ≡ rowsFrom (λ i c. cellAt (typesOf table) (table .«long_string_refs») (rowsFor table (now (stream .entry))) (now (stream .entry)) i c .0) (table .count) (band .first) (band .rows)) × (now (numbers .exit) ≡ rowsFrom (λ i c. cellAt (typesOf table) (table .«long_string_refs») (rowsFor table (now (stream .entry))) (now (stream .entry)) i c .1) (table .count) (band .first) (band .rows)) ⌝ }
 {
     let count = table.count;
     let first = band.first;
     let some = band.rows;
     let mut c = 0;
     while c < count {
-        let start = rows * arrays.starts[c] + first * arrays.widths[c];
+        let start = column_start(stream.len(), arrays.row_size, arrays.starts[c]);
+        let from = start + first * arrays.widths[c];
         let run = Stride {
             column: c,
             step: count,
             rows: some,
         };
-        column_read::read_column(
-            layout::form_at(table, c),
-            stream,
-            start,
-            kinds,
-            numbers,
-            run,
-        );
+        column_read::read_column(layout::form_at(table, c), stream, from, kinds, numbers, run);
         c += 1;
     }
 }

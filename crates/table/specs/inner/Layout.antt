@@ -3,7 +3,7 @@ use Prim.Native.Nat.{ℕ, _+_, _≤_}
 use mathlib.Core.Path.{_≡_}
 use mathlib.Core.Bool.{Bool}
 use mathlib.Core.List.{List, [], _∷_, map}
-use lib.ListN.{replicate}
+use lib.ListN.{length, replicate}
 use Rattle.common.specs.Lists.{_over_}
 use Rattle.common.specs.Answers.{gives, refusalOf}
 use Rattle.column_type.specs.declared.form.ColumnType.{ColumnType}
@@ -11,11 +11,19 @@ use Rattle.column_type.specs.Cells.{width}
 use Rattle.table.specs.declared.layout.Table.{Table}
 use Rattle.table.specs.declared.layout.Layout.{Layout}
 use Rattle.table.specs.Layout.{soundColumns, typesOf}
-use Rattle.table.specs.Rows.{rowSize}
+use Rattle.table.specs.Rows.{rowSize, rowsIn}
 
 -- the columns were judged
 abbrev pub Sound : Table → Type 0
 Sound t = (t .count ≤ 64) × (refusalOf (soundColumns 64 t) ≡ gives tt)
+
+-- the complete rows of a stream
+abbrev pub rowsFor : Table → List ℕ → ℕ
+rowsFor t s = rowsIn (typesOf t) (t .«long_string_refs») s
+
+-- a stream within its size, and few rows
+abbrev pub Few : Table → List ℕ → Type 0
+Few t s = (length s ≤ 268435455) × (rowsFor t s ≤ 65536)
 
 -- each column's width, and the widths before it, from `at` on
 abbrev pub widthsOf : List ColumnType → Bool → List ℕ

@@ -24,7 +24,9 @@ returns-4 c =
     let a = c .before .before .before .before .before .before .before .args in
     let n = c .before .before .before .before .cell .given .0 .0 in
     let e = bias-is n (c .before .before .before .known-told .given .0 .1) (c .before .before .bias .ensures) in
-    rw (c .before .before .before .before .cell .given .1) (sym (integer-refused (a .half) (cell (a .row) (a .column)) n (too-high (a .half) n (rw e at (c .if2 .taken)))))
+    let small = c .before .before .before .before .before .before .before .pre in
+    let high = rw e at (c .if2 .taken) in
+    rw (c .before .before .before .before .cell .given .1) (sym (integer-refused (a .half) (cell (a .row) (a .column)) n (too-high (a .half) n (omega arith))))
 
 cast-t13 : tie.Need-cast-t13
 cast-t13 c =
@@ -41,7 +43,8 @@ returns-5 c =
     let m = c .before .before .before .known-told .given .0 .1 in
     let e = bias-is n m (c .before .before .bias .ensures) in
     let above = rw e at (c .before .if1 .left) in
-    let f = in-range (a .half) n m (c .before .before .before .before .before .before .before .pre) (omega arith) (rw e at (c .if2 .left)) in
+    let below = rw e at (c .if2 .left) in
+    let f = in-range (a .half) n m (c .before .before .before .before .before .before .before .pre) (omega arith) (omega arith) in
     rw (c .before .before .before .before .cell .given .1, e) (ap gives (f .1) ∙ sym (integer-given (a .half) (cell (a .row) (a .column)) n (f .0)))
 
 pub integer-stored-spec : {M : Type 1} → statement M

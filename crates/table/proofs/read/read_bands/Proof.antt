@@ -1,5 +1,6 @@
 -- `read::read_bands` meets its contract: the bands before this turn's are written. Assumes nothing.
 use Rattle.table.proofs.Grid.{Banded, band-begin, band-turn, band-done, band-within}
+use Rattle.table.specs.inner.Columns.{rowsFrom}
 use Rattle.table.specs.Rows.{cellAt}
 use Rattle.table.specs.Layout.{typesOf}
 use Rattle.common.proofs.Writing.{kept}
@@ -8,8 +9,8 @@ use lib.Seq.{length-take-le}
 use lib.IntN.{pos}
 use native.Mathlib.Omega.{arith}
 use native.Mathlib.Nat.{mul-le-mul-right}
-use Prim.Native.Nat.{_+_, _-_, _*_, _≤_}
-use mathlib.Core.Path.{_≡_}
+use Prim.Native.Nat.{ℕ, _+_, _-_, _*_, _≤_}
+use mathlib.Core.Path.{_≡_, sym, ap, _∙_}
 use Rattle.table.proofs.read.read_bands.Statement.{statement}
 use Rattle.table.proofs.read.read_bands.Tie as tie
 
@@ -28,7 +29,7 @@ band c =
     let s = c .before .before .before .before .before .before in
     let first = c .before .before .loop .first in
     let h : first + c .near .result ≤ s .args .rows = omega (arith, c .near .ensures .0, c .before .loop-test .taken) in
-    (h, band-within first (c .near .result) (s .args .rows) (s .args .table .count) h, omega (arith, mul-le-mul-right {m = s .args .rows} {n = 65536} (s .args .table .count) (s .pre .1), s .pre .0 .0))
+    (h, band-within first (c .near .result) (s .args .rows) (s .args .table .count) h, omega (arith, mul-le-mul-right {m = s .args .rows} {n = 65536} (s .args .table .count) (rw (← s .pre .2) at (s .pre .1 .1)), s .pre .0 .0))
 
 layout-of-requires : tie.Need-layout-of-requires Inv-loop μ-loop
 layout-of-requires c κs = c .before .before .pre .0
@@ -64,7 +65,7 @@ read-columns-requires c κs =
     let k : at + cells - at ≡ cells = omega arith in
     let kinds : length (take cells (drop at (l .kinds))) ≡ cells = length-take-le cells (drop at (l .kinds)) (simp length-drop (omega (arith, b, kept (l .inv .1), s .pre .3))) in
     let numbers : length (take cells (drop at (l .numbers))) ≡ cells = length-take-le cells (drop at (l .numbers)) (simp length-drop (omega (arith, b, kept (l .inv .2), s .pre .4))) in
-    (s .pre .0, c .before .before .before .before .before .layout-of .ensures, s .pre .1, b .0, s .pre .2, rw k kinds, rw k numbers)
+    (s .pre .0, c .before .before .before .before .before .layout-of .ensures, s .pre .1, rw (← s .pre .2) (b .0), rw k kinds, rw k numbers)
 
 add-first : tie.Need-add-first Inv-loop μ-loop
 add-first c = omega (arith, band (c .before .before .before .before .before .before))
@@ -81,10 +82,13 @@ loop-again c =
     let h = band (c .before .before .before .before .before .before) .0 in
     let put = c .before .before .before .read-columns in
     let cells = l .first * t .count + some * t .count - l .first * t .count in
-    let k : cells ≡ some * t .count = omega arith in (
+    let k : cells ≡ some * t .count = omega arith in
+    let e = sym (c .before .before .before .before .before .before .before .before .before .before .before .before .pre .2) in
+    let kinds = ap (λ (n : ℕ). rowsFrom (λ r j. cellAt (typesOf t) (t .«long_string_refs») n (a .stream .now) r j .0) (t .count) (l .first) some) e in
+    let numbers = ap (λ (n : ℕ). rowsFrom (λ r j. cellAt (typesOf t) (t .«long_string_refs») n (a .stream .now) r j .1) (t .count) (l .first) some) e in (
       h,
-      band-turn (λ r j. cellAt (typesOf t) (t .«long_string_refs») (a .rows) (a .stream .now) r j .0) 0 (t .count) (a .rows) (a .kinds .now) (l .kinds) (put .last .1 .1 .1 .1 .1 .0) (l .first) some cells h k (put .ensures .0) (l .inv .1),
-      band-turn (λ r j. cellAt (typesOf t) (t .«long_string_refs») (a .rows) (a .stream .now) r j .1) (pos 0) (t .count) (a .rows) (a .numbers .now) (l .numbers) (put .last .1 .1 .1 .1 .1 .1 .0) (l .first) some cells h k (put .ensures .1) (l .inv .2),
+      band-turn (λ r j. cellAt (typesOf t) (t .«long_string_refs») (a .rows) (a .stream .now) r j .0) 0 (t .count) (a .rows) (a .kinds .now) (l .kinds) (put .last .1 .1 .1 .1 .0) (l .first) some cells h k (put .ensures .0 ∙ kinds) (l .inv .1),
+      band-turn (λ r j. cellAt (typesOf t) (t .«long_string_refs») (a .rows) (a .stream .now) r j .1) (pos 0) (t .count) (a .rows) (a .numbers .now) (l .numbers) (put .last .1 .1 .1 .1 .1 .0) (l .first) some cells h k (put .ensures .1 ∙ numbers) (l .inv .2),
     )
 
 same-length : tie.Need-same-length Inv-loop μ-loop

@@ -1,5 +1,5 @@
 -- `Table::read_rows` meets its contract. Assumes nothing.
-use Rattle.table.proofs.Answers.{Found, found, holds}
+use Rattle.table.proofs.Answers.{Found, found}
 use borrow.Author.Tests.{lt-ltb, le-ltb}
 use native.Mathlib.Omega.{arith}
 use native.Mathlib.Nat.{mul-le-mul-right}
@@ -33,7 +33,7 @@ returns-2 c =
 read-bands-requires : tie.Need-read-bands-requires
 read-bands-requires c κs =
     let f = at-found (c .before .before .before .before .before) in
-    (f .sound, f .few, holds f, c .before .before .before .if1 .left, c .before .before .if2 .left)
+    (f .sound, (f .small, rw (f .is) at (f .few)), f .is, c .before .before .before .if1 .left, c .before .before .if2 .left)
 
 returns-3 : tie.Need-returns-3
 returns-3 c =

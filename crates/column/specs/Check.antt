@@ -1,4 +1,4 @@
--- Document 01, "Value check": a value, by its kind and number, with a text beside it.
+-- Document 01, "Value check": a value, with its text beside it.
 use Prim.Native.Nat.{ℕ}
 use mathlib.Core.Bool.{Bool, true, false, not, _&&_, _||_}
 use mathlib.Core.List.{List}
@@ -8,6 +8,8 @@ use Rattle.common.specs.Choice.{if_then_else_, _<?_, _≤?_, _=?_, _<ℤ?_}
 use Rattle.common.specs.Sizes.{maxBytes}
 use Rattle.common.specs.Answers.{Answer, gives, refused, nowhere, onGiven}
 use Rattle.common.specs.Refusals.{refusedBy}
+use Rattle.value.specs.declared.Value.{Value}
+use Rattle.value.specs.declared.Value.the-variants as value
 use Rattle.column_type.specs.Forms.{soundType}
 use Rattle.column_type.specs.declared.form.ColumnType.{ColumnType}
 use Rattle.column_type.specs.declared.form.ColumnType.the-variants.{Int16, Int32, Str, Binary}
@@ -47,18 +49,17 @@ textFits (Str max) bytes = max =? 0 || bytes ≤? max
 textFits Binary bytes = false
 
 -- "Null, if nullable" (document 02, E6: in a Binary column too); "Int, [as above]; text, [as above]; Binary, on Binary"
-abbrev pub suits : Column → ℕ → ℤ → ℕ → Bool
-suits x kind n bytes =
-    if kind =? 0 then x .«is_nullable»
-    else if kind =? 1 then inside (x .«value_range») n && integerFits (x .coltype) n
-    else if kind =? 2 then textFits (x .coltype) bytes
-    else isBinary (x .coltype)
+abbrev pub suits : Column → Value → ℕ → Bool
+suits x value.Null bytes = x .«is_nullable»
+suits x (value.Int n) bytes = inside (x .«value_range») n && integerFits (x .coltype) n
+suits x value.Str bytes = textFits (x .coltype) bytes
+suits x value.Binary bytes = isBinary (x .coltype)
 
 -- `is_valid_value`: 22 for the text, then 19, else whether the value suits
-abbrev pub checkAnswer : Column → ℕ → ℤ → List ℕ → Answer Bool
-checkAnswer x kind n text =
+abbrev pub checkAnswer : Column → Value → List ℕ → Answer Bool
+checkAnswer x v text =
     if maxBytes <? length text then refused 22 nowhere
-    else onGiven (soundType 0 (x .coltype)) (λ t. gives (suits x kind n (length text)))
+    else onGiven (soundType 0 (x .coltype)) (λ t. gives (suits x v (length text)))
 
 abbrev pub validityAs : Validity → Answer Bool
 validityAs Valid = gives true

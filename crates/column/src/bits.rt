@@ -20,6 +20,10 @@ const VALID_BIT: i32 = 0x100;
 
 const NONBINARY_BIT: i32 = 0x400;
 
+const INT16_SIZE: i32 = 2;
+
+const INT32_SIZE: i32 = 4;
+
 // The type that bits name, or that the size of an integer column is none.
 pub(crate) enum Read {
     Type(ColumnType),
@@ -37,13 +41,13 @@ pub(crate) fn type_of(bits: i32) -> Read
     if bits & STRING_BIT != 0 {
         return Read::Type(ColumnType::Str(size as u32));
     }
-    if size == 4 {
+    if size == INT32_SIZE {
         if bits & NONBINARY_BIT == 0 {
             return Read::Type(ColumnType::Int32);
         }
         return Read::Type(ColumnType::Binary);
     }
-    if size == 2 {
+    if size == INT16_SIZE {
         return Read::Type(ColumnType::Int16);
     }
     if size == 1 {
@@ -68,10 +72,10 @@ pub(crate) fn type_bits(coltype: ColumnType) -> u32
     ensures { λ r. ⌜ r ≡ typeBits coltype ⌝ }
 {
     match coltype {
-        ColumnType::Int16 => 0x502,
-        ColumnType::Int32 => 0x104,
-        ColumnType::Str(max) => max | 0xD00,
-        ColumnType::Binary => 0x900,
+        ColumnType::Int16 => (VALID_BIT | NONBINARY_BIT | INT16_SIZE) as u32,
+        ColumnType::Int32 => (VALID_BIT | INT32_SIZE) as u32,
+        ColumnType::Str(max) => max | (STRING_BIT | VALID_BIT | NONBINARY_BIT) as u32,
+        ColumnType::Binary => (STRING_BIT | VALID_BIT) as u32,
     }
 }
 

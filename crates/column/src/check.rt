@@ -3,9 +3,8 @@ use crate::column::Column;
 use crate::column::ValueRange;
 use column_type::ColumnType;
 use common::Refusal;
-use value::ValueRef;
+use value::Value;
 ghost use mathlib.Core.Path.{_≡_};
-ghost use Rattle.value.specs.Kinds.{kindOf, numberOf};
 ghost use Rattle.column.specs.Check.{isBinary, inside, between, integerFits, textFits, suits, checkAnswer, validityAs};
 
 pub enum Validity {
@@ -15,8 +14,8 @@ pub enum Validity {
 }
 
 impl Column {
-    pub fn is_valid_value(self, value: ValueRef, text: &[u8]) -> Validity
-        ensures { λ r. ⌜ validityAs r ≡ checkAnswer self (kindOf value) (numberOf value) (now (text .entry)) ⌝ }
+    pub fn is_valid_value(self, value: Value, text: &[u8]) -> Validity
+        ensures { λ r. ⌜ validityAs r ≡ checkAnswer self value (now (text .entry)) ⌝ }
     {
         if common::sizes::MAX_BYTES < text.len() {
             return Validity::Refused(Refusal::OverSize);
@@ -32,21 +31,21 @@ impl Column {
     }
 }
 
-fn allows(column: Column, value: ValueRef, bytes: usize) -> bool
-    ensures { λ r. ⌜ r ≡ suits column (kindOf value) (numberOf value) bytes ⌝ }
+fn allows(column: Column, value: Value, bytes: usize) -> bool
+    ensures { λ r. ⌜ r ≡ suits column value bytes ⌝ }
 {
     let coltype = column.coltype;
     match value {
-        ValueRef::Null => column.is_nullable,
-        ValueRef::Int(n) => {
+        Value::Null => column.is_nullable,
+        Value::Int(n) => {
             let range = column.value_range;
             if in_range(n, range) {
                 return int_fits(coltype, n);
             }
             false
         }
-        ValueRef::Str(_) => text_fits(coltype, bytes),
-        ValueRef::Binary => is_binary(coltype),
+        Value::Str => text_fits(coltype, bytes),
+        Value::Binary => is_binary(coltype),
     }
 }
 

@@ -1,10 +1,9 @@
 // The value check at every edge of range, maximum and width.
 use column::Column;
 use column::Validity;
-use stringpool::StringRef;
-use value::ValueRef;
+use value::Value;
 
-fn check(label: &[u8], x: Column, v: ValueRef, text: &[u8]) {
+fn check(label: &[u8], x: Column, v: Value, text: &[u8]) {
     show::words(b"value check, ");
     show::words(label);
     said(x.is_valid_value(v, text));
@@ -20,7 +19,7 @@ fn said(v: Validity) {
 }
 
 fn int(label: &[u8], x: Column, n: i32) {
-    check(label, x, ValueRef::Int(n), b"");
+    check(label, x, Value::Int(n), b"");
 }
 
 fn widths() {
@@ -48,7 +47,7 @@ fn ranges() {
 }
 
 fn text(label: &[u8], x: Column, s: &[u8]) {
-    check(label, x, ValueRef::Str(StringRef(1)), s);
+    check(label, x, Value::Str, s);
 }
 
 fn texts() {
@@ -75,7 +74,7 @@ fn texts() {
 }
 
 fn null(label: &[u8], x: Column) {
-    check(label, x, ValueRef::Null, b"");
+    check(label, x, Value::Null, b"");
 }
 
 fn nulls() {
@@ -95,7 +94,7 @@ fn nulls() {
 }
 
 fn binary(label: &[u8], x: Column) {
-    check(label, x, ValueRef::Binary, b"");
+    check(label, x, Value::Binary, b"");
 }
 
 fn binaries() {

@@ -3,7 +3,7 @@ use mathlib.Core.Path.{_≡_, refl, sym, _∙_, ap}
 use mathlib.Core.Bool.{Bool, true, false, not, _&&_}
 use Prim.Native.Nat.{ℕ, _<_, _≤_}
 use native.Mathlib.Omega.{arith}
-use borrow.Author.Tests.{ltb-false, eqb-true, leb-false}
+use borrow.Author.Tests.{ltb-true, ltb-false, eqb-true, eqb-false, ne-eqb, leb-false}
 use lib.Dec.{eqb, ltb, leb}
 use lib.IntN.{ℤ, pos, negsuc, natAbs, _+ℤ_}
 use lib.Signed.{ltZ}
@@ -11,7 +11,7 @@ use Rattle.common.specs.Choice.{if_then_else_}
 use Rattle.common.specs.Answers.{Place, gives, refused}
 use Rattle.value.specs.declared.Cell.{Cell}
 use Rattle.value.specs.declared.Cell.the-variants as cell
-use Rattle.value.specs.Handed.{cellOf, handedKind, handedNumber}
+use Rattle.value.specs.Handed.{unknown, cellOf, handedKind, handedNumber}
 use Rattle.column_type.specs.declared.form.ColumnType.{ColumnType}
 use Rattle.column_type.specs.declared.form.ColumnType.the-variants.{Int16, Int32, Str, Binary}
 use Rattle.column_type.specs.Cells.{stored, integer, referenceNumber}
@@ -40,18 +40,23 @@ module _ (long : Bool) (at : Place) where
   unknown-kind Binary k n a b c d = rw (a, d)
 
   pub handed-stored : (t : ColumnType) (k : ℕ) (n : ℤ) → stored t long at (handedKind (cellOf k n)) (handedNumber (cellOf k n)) ≡ stored t long at k n
-  handed-stored t k n = go (eqb k 0) (eqb k 1) (eqb k 2) (eqb k 3) refl refl refl refl
+  handed-stored t k n = go (unknown k) (eqb k 0) (eqb k 1) (eqb k 2) refl refl refl refl
     where
       pick : Bool → Bool → Bool → Bool → Cell
-      pick a b c d = if a then cell.Null else if b then cell.Int n else if c then cell.Str n else if d then cell.Binary else cell.Unknown
+      pick u a b c = if u then cell.Unknown else if a then cell.Null else if b then cell.Int n else if c then cell.Str n else cell.Binary
 
-      go : (a b c d : Bool) → eqb k 0 ≡ a → eqb k 1 ≡ b → eqb k 2 ≡ c → eqb k 3 ≡ d
-          → stored t long at (handedKind (pick a b c d)) (handedNumber (pick a b c d)) ≡ stored t long at k n
-      go true b c d p q r s = rw (eqb-true k 0 p) (null-any t (pos 0) n)
-      go false true c d p q r s = rw (eqb-true k 1 q)
-      go false false true d p q r s = rw (eqb-true k 2 r)
-      go false false false true p q r s = rw (eqb-true k 3 s) (binary-any t (pos 0) n)
-      go false false false false p q r s = unknown-kind t 4 (pos 0) refl refl refl refl ∙ sym (unknown-kind t k n p q r s)
+      go : (u a b c : Bool) → unknown k ≡ u → eqb k 0 ≡ a → eqb k 1 ≡ b → eqb k 2 ≡ c
+          → stored t long at (handedKind (pick u a b c)) (handedNumber (pick u a b c)) ≡ stored t long at k n
+      go true a b c h p q r =
+          let more = ltb-true 3 k h in
+          let none : (m : ℕ) → m ≤ 3 → eqb k m ≡ false = λ m few. ne-eqb k m (λ e. omega (arith, e)) in
+          unknown-kind t 4 (pos 0) refl refl refl refl ∙ sym (unknown-kind t k n (none 0 (omega arith)) (none 1 (omega arith)) (none 2 (omega arith)) (none 3 (omega arith)))
+      go false true b c h p q r = rw (eqb-true k 0 p) (null-any t (pos 0) n)
+      go false false true c h p q r = rw (eqb-true k 1 q)
+      go false false false true h p q r = rw (eqb-true k 2 r)
+      go false false false false h p q r =
+          let three : k ≡ 3 = omega (arith, ltb-false 3 k h, eqb-false k 0 p, eqb-false k 1 q, eqb-false k 2 r) in
+          rw three (binary-any t (pos 0) n)
 
 -- ---- an integer that was stored
 

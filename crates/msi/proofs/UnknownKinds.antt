@@ -16,12 +16,13 @@ use Rattle.common.proofs.Outcomes.{refused-gives}
 use Rattle.stringpool.specs.Pool.{Rooms, sound}
 use Rattle.stringpool.specs.Write.{writeAnswer}
 use Rattle.stringpool.specs.declared.pool.StringPool.{StringPool}
-use Rattle.value.specs.Kinds.{kindOf, numberOf}
+use Rattle.value.specs.Kinds.{kindOf, numberOf, valueKind, valueNumber}
 use Rattle.value.specs.declared.ValueRef.the-variants as values
-use Rattle.pool_values.specs.declared.Value.the-variants as plain
-use Rattle.pool_values.specs.Pooled.{valueKind, valueNumber, createAnswer, removeAnswer}
+use Rattle.value.specs.declared.Value.the-variants as plain
+use Rattle.pool_values.specs.Pooled.{createAnswer, removeAnswer}
 use Rattle.msi_forms.specs.Answers.{countIn, handed}
-use Rattle.msi_forms.specs.Unknown.{unknown, onKind}
+use Rattle.value.specs.Handed.{unknown}
+use Rattle.msi_forms.specs.Unknown.{onKind}
 use Rattle.msi_forms.specs.Values.{valueIn, plainIn}
 use Rattle.msi_forms.specs.declared.answers.Count.{Count}
 use Rattle.msi.proofs.Gets.{written}

@@ -11,7 +11,7 @@ use msi_forms::columns::from_bits;
 use msi_forms::columns::from_check;
 use msi_forms::columns::from_made;
 use msi_forms::columns::parts_of;
-use msi_forms::values::value_in;
+use msi_forms::values::plain_in;
 ghost use mathlib.Core.Path.{_≡_};
 ghost use Rattle.column.specs.Columns.{building, withLocalizable, withNullable, withPrimaryKey, withRange, finished, bitsColumn, bitfieldAnswer};
 ghost use Rattle.column_type.specs.declared.form.ColumnType.the-variants as types;
@@ -117,6 +117,6 @@ pub extern "C" fn strandroost_is_valid_value(
     ensures { λ r. ⌜ r ≡ flagIn (checkBy column kind number (now (text .entry))) ⌝ }
 {
     let made = column_in(column);
-    let value = value_in(kind, number);
+    let value = plain_in(kind, number);
     from_check(made.is_valid_value(value, text), column, kind)
 }

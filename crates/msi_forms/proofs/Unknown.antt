@@ -8,7 +8,8 @@ use borrow.Author.Tests.{lt-ltb, le-ltb}
 use Rattle.common.specs.Choice.{if_then_else_}
 use Rattle.common.specs.Answers.{Place, nowhere, column, cell, Answer, refused}
 use Rattle.msi_forms.specs.Answers.{refusalAt}
-use Rattle.msi_forms.specs.Unknown.{unknown, onKind, numberAt}
+use Rattle.value.specs.Handed.{unknown}
+use Rattle.msi_forms.specs.Unknown.{onKind, numberAt}
 use Rattle.msi_forms.specs.declared.answers.Refused.{Refused}
 use Rattle.msi_forms.specs.declared.answers.ColumnParts.{ColumnParts}
 

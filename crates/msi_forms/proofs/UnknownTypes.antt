@@ -7,7 +7,7 @@ use native.Mathlib.Omega.{arith}
 use native.Mathlib.Nat.{not-suc-le-zero, le-of-suc-le-suc}
 use lib.ListN.{length, take, getD, length-map}
 use lib.Seq.{getD-take, length-take-le}
-use borrow.Author.Tests.{le-ltb, ltb-true, ne-eqb}
+use borrow.Author.Tests.{le-ltb}
 use Rattle.common.specs.Sizes.{maxString}
 use Rattle.common.specs.Answers.{Place, Answer, gives, refused, column, onGiven}
 use Rattle.common.proofs.Outcomes.{refused-gives}
@@ -17,7 +17,7 @@ use Rattle.table.specs.Layout.{columnsOf, eachAt, soundColumn}
 use Rattle.msi_forms.specs.Columns.{typeIn, columnFrom, builderOut}
 use Rattle.msi_forms.specs.Promises.{UnknownType}
 use Rattle.msi_forms.specs.Tables.{tableIn}
-use Rattle.msi_forms.specs.Unknown.{unknown}
+use Rattle.value.specs.Handed.{unknown}
 use Rattle.msi_forms.specs.declared.answers.ColumnParts.{ColumnParts}
 use Rattle.msi_forms.proofs.Unknown.{type-in}
 
@@ -43,9 +43,7 @@ module _ {A B : Type 0} (f : ℕ → A → Answer B) (none : A) (n : ℕ) (at : 
       passed (f k x) (eachAt f (suc k) (take c xs)) (eachAt f (suc k) xs) before (λ zs b. stops xs (suc k) c (le-of-suc-le-suc h) b (ap (λ (i : ℕ). f i (getD xs c none)) on ∙ e))
 
 unknown-type : (p : ColumnParts) → unknown (p .coltype) ≡ true → typeIn p ≡ types.Str (maxString + 1)
-unknown-type p e =
-    let more = ltb-true 3 (p .coltype) e in
-    simp (ne-eqb (p .coltype) 0 (λ q. omega (arith, more, q)), ne-eqb (p .coltype) 1 (λ q. omega (arith, more, q)), ne-eqb (p .coltype) 2 (λ q. omega (arith, more, q)), ne-eqb (p .coltype) 3 (λ q. omega (arith, more, q)))
+unknown-type p e = rw e
 
 unknown-column : (c : ℕ) (p : ColumnParts) → unknown (p .coltype) ≡ true → soundColumn c (columnFrom p) ≡ refused 19 (column c)
 unknown-column c p e = rw (unknown-type p e)

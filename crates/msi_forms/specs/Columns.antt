@@ -5,6 +5,7 @@ use lib.IntN.{pos}
 use Rattle.common.specs.Choice.{if_then_else_, _=?_}
 use Rattle.common.specs.Sizes.{maxString}
 use Rattle.common.specs.Answers.{Answer}
+use Rattle.value.specs.Handed.{unknown}
 use Rattle.column.specs.Columns.{building, finished}
 use Rattle.column_type.specs.declared.form.ColumnType.{ColumnType}
 use Rattle.column_type.specs.declared.form.ColumnType.the-variants as types
@@ -22,11 +23,11 @@ use Rattle.msi_forms.specs.declared.columns.RangeParts.{RangeParts}
 -- has only the number to say anew.
 abbrev pub typeIn : ColumnParts → ColumnType
 typeIn p =
-    if p .coltype =? 0 then types.Int16
+    if unknown (p .coltype) then types.Str (maxString + 1)
+    else if p .coltype =? 0 then types.Int16
     else if p .coltype =? 1 then types.Int32
     else if p .coltype =? 2 then types.Str (p .«max_len»)
-    else if p .coltype =? 3 then types.Binary
-    else types.Str (maxString + 1)
+    else types.Binary
 
 abbrev pub rangeIn : ColumnParts → ValueRange
 rangeIn p = if p .«has_range» then Within (p .min) (p .max) else Any

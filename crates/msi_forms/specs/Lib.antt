@@ -1,5 +1,6 @@
 pub mod Answers
 pub mod Columns
+pub mod Points
 pub mod Pools
 pub mod Promises
 pub mod Tables

@@ -7,7 +7,7 @@ use Rattle.common.specs.Sizes.{maxColumns}
 use Rattle.common.specs.Answers.{gives, refused, column}
 use Rattle.table.specs.Layout.{columnsOf, eachAt, soundColumn, soundColumns}
 use Rattle.msi_forms.specs.Tables.{tableIn, typeAt, onTable}
-use Rattle.msi_forms.specs.Unknown.{unknown}
+use Rattle.value.specs.Handed.{unknown}
 use Rattle.msi_forms.specs.declared.answers.TableParts.{TableParts}
 
 -- the first bad column is the one at c, which is in use, and its type is unknown: 16 at c

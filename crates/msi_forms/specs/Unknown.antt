@@ -1,12 +1,9 @@
--- "16: kind of cell does not suit the column, or is unknown". C hands kinds and types over as numbers, and 0 to 3 are known:
--- Null, Int, Str and Binary; Int16, Int32, Str and Binary.
+-- "16: kind of cell does not suit the column, or is unknown". C hands kinds and types over as numbers: `unknown` of crate value says which
+-- of them are none, of types (0 Int16, 1 Int32, 2 Str, 3 Binary) as of kinds.
 use Prim.Native.Nat.{ℕ}
-use mathlib.Core.Bool.{Bool}
-use Rattle.common.specs.Choice.{if_then_else_, _<?_}
+use Rattle.common.specs.Choice.{if_then_else_}
 use Rattle.common.specs.Answers.{Place, nowhere, column, cell, Answer, gives, refused, onGiven}
-
-abbrev pub unknown : ℕ → Bool
-unknown number = 3 <? number
+use Rattle.value.specs.Handed.{unknown}
 
 -- the answer to a value of this kind: one of an unknown kind is refused where a Binary would not be, so 16 comes after 22 and 24
 abbrev pub onKind : {A : Type 0} → Place → ℕ → Answer A → Answer A

@@ -9,10 +9,10 @@ use Rattle.stringpool.specs.declared.pool.StringPool.{StringPool}
 use Rattle.stringpool.specs.Pool.{Rooms}
 use Rattle.value.specs.declared.ValueRef.{ValueRef}
 use Rattle.value.specs.declared.ValueRef.the-variants as values
-use Rattle.value.specs.Kinds.{kindOf, numberOf}
-use Rattle.pool_values.specs.declared.Value.{Value}
-use Rattle.pool_values.specs.declared.Value.the-variants as plain
-use Rattle.pool_values.specs.Pooled.{valueKind, valueNumber, createAnswer, removeAnswer, textAnswer, shownAnswer}
+use Rattle.value.specs.Kinds.{kindOf, numberOf, valueKind, valueNumber}
+use Rattle.value.specs.declared.Value.{Value}
+use Rattle.value.specs.declared.Value.the-variants as plain
+use Rattle.pool_values.specs.Pooled.{createAnswer, removeAnswer, textAnswer, shownAnswer}
 use Rattle.column.specs.Check.{checkAnswer}
 use Rattle.msi_forms.specs.Answers.{refusalIn, givenOr}
 use Rattle.msi_forms.specs.Columns.{columnFrom, onColumn}
@@ -53,7 +53,7 @@ textBy kind n p w = onKind nowhere kind (textAnswer (kindOf (valueIn kind n)) (n
 -- and with a column, which is column 0: 22, then the column's 19 or 16, then 16 for the value
 abbrev pub checkBy : ColumnParts → ℕ → ℤ → List ℕ → Answer Bool
 checkBy p kind n text =
-    onKind (column 0) kind (onColumn p (checkAnswer (columnFrom p) (kindOf (valueIn kind n)) (numberOf (valueIn kind n)) text))
+    onKind (column 0) kind (onColumn p (checkAnswer (columnFrom p) (plainIn kind n) text))
 
 abbrev pub noValue : (ℕ × ℤ) × StringPool
 noValue = ((0, pos 0), noPool)

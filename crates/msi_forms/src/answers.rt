@@ -6,7 +6,8 @@ ghost use Rattle.common.specs.Refusals.{numberOf, whereOf, refusedBy};
 ghost use Rattle.common.specs.Answers.{nowhere};
 ghost use Rattle.common.specs.Answers as places;
 ghost use Rattle.msi_forms.specs.Answers.{refusalAt, noRefusal, countIn};
-ghost use Rattle.msi_forms.specs.Unknown.{unknown, numberAt};
+ghost use Rattle.value.specs.Handed.{unknown};
+ghost use Rattle.msi_forms.specs.Unknown.{numberAt};
 
 // `place` is 0 where there is none, 1 for a column, 2 for a cell.
 #[repr(C)]

@@ -36,6 +36,9 @@ struct RangeParts {
 fn type_in(parts: ColumnParts) -> ColumnType
     ensures { λ r. ⌜ r ≡ typeIn parts ⌝ }
 {
+    if parts.coltype > 3 {
+        return ColumnType::Str(MAX_STRING + 1);
+    }
     if parts.coltype == 0 {
         return ColumnType::Int16;
     }
@@ -45,10 +48,7 @@ fn type_in(parts: ColumnParts) -> ColumnType
     if parts.coltype == 2 {
         return ColumnType::Str(parts.max_len);
     }
-    if parts.coltype == 3 {
-        return ColumnType::Binary;
-    }
-    ColumnType::Str(MAX_STRING + 1)
+    ColumnType::Binary
 }
 
 fn range_in(parts: ColumnParts) -> ValueRange

@@ -12,26 +12,11 @@ use Rattle.stringpool.specs.Pool.{Rooms, onSound}
 use Rattle.stringpool.specs.Take.{takeAnswer, firstFreeOrEqual}
 use Rattle.stringpool.specs.Drop.{dropAnswer}
 use Rattle.stringpool.specs.Show.{showAnswer}
-use Rattle.value.specs.Kinds.{kindOf, numberOf}
-use Rattle.pool_values.specs.declared.Value.{Value}
-use Rattle.pool_values.specs.declared.Value.the-variants as plain
+use Rattle.value.specs.Kinds.{kindOf, numberOf, valueKind, valueNumber}
 use Rattle.pool_values.specs.declared.Created.{Created}
 use Rattle.pool_values.specs.declared.Created.the-variants as created
 use Rattle.pool_values.specs.declared.Shown.{Shown}
 use Rattle.pool_values.specs.declared.Shown.the-variants as shown
-
--- "0 Null, 1 Int, 2 Str, 3 Binary"
-abbrev pub valueKind : Value → ℕ
-valueKind plain.Null = 0
-valueKind (plain.Int n) = 1
-valueKind plain.Str = 2
-valueKind plain.Binary = 3
-
-abbrev pub valueNumber : Value → ℤ
-valueNumber plain.Null = pos 0
-valueNumber (plain.Int n) = n
-valueNumber plain.Str = pos 0
-valueNumber plain.Binary = pos 0
 
 -- a text is taken; any other value leaves the pool as it is, after 22 for the text and for the room, and 24
 abbrev pub createAnswer : ℕ → ℤ → List ℕ → StringPool → Rooms → Answer (((ℕ × ℤ) × StringPool) × Rooms)

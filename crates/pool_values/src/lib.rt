@@ -6,24 +6,17 @@ use stringpool::Showable;
 use stringpool::StringPool;
 use stringpool::StringRef;
 use stringpool::Taken;
+pub use value::Value;
 use value::ValueRef;
 ghost use mathlib.Core.Path.{_≡_};
 ghost use Rattle.stringpool.specs.Pool.{rooms};
 ghost use Rattle.stringpool.specs.Drop.{droppedAs};
 ghost use Rattle.stringpool.specs.Show.{orEmpty};
-ghost use Rattle.value.specs.Kinds.{kindOf, numberOf};
-ghost use Rattle.pool_values.specs.Pooled.{valueKind, valueNumber, createdAs, createOutcome, removeOutcome, shownAs, shownAnswer, textAnswer};
+ghost use Rattle.value.specs.Kinds.{kindOf, numberOf, valueKind, valueNumber};
+ghost use Rattle.pool_values.specs.Pooled.{createdAs, createOutcome, removeOutcome, shownAs, shownAnswer, textAnswer};
 ghost use Rattle.pool_values.specs.inner.Pooled.{createdOf, plainOf, keptBy, shownOf};
 ghost use Rattle.common.specs.Choice.{if_then_else_, _=?_};
 ghost use lib.IntN.{pos};
-
-// A value whose text, where it is one, stands beside it.
-pub enum Value {
-    Null,
-    Int(i32),
-    Str,
-    Binary,
-}
 
 pub enum Created {
     Value(ValueRef, StringPool),

@@ -13,8 +13,7 @@ use commands::words::bytes_in;
 use commands::words::end_of;
 use commands::words::front;
 use common::Refusal;
-use stringpool::StringRef;
-use value::ValueRef;
+use value::Value;
 ghost use Prim.Native.Nat.{_+_, _*_, _≤_};
 
 // 1 nullable, 2 localizable, 4 primary key, added up.
@@ -133,12 +132,12 @@ pub(crate) fn comma_after(s: &[u8], at: usize) -> usize {
     end
 }
 
-fn value_at(s: &[u8], at: usize) -> ValueRef {
+fn value_at(s: &[u8], at: usize) -> Value {
     match byte(s, at) {
-        b'n' => ValueRef::Null,
-        b'b' => ValueRef::Binary,
-        b't' => ValueRef::Str(StringRef(0)),
-        _ => ValueRef::Int(numbers::signed_at(s, after(s, at))),
+        b'n' => Value::Null,
+        b'b' => Value::Binary,
+        b't' => Value::Str,
+        _ => Value::Int(numbers::signed_at(s, after(s, at))),
     }
 }
 

@@ -1,18 +1,23 @@
 -- Document 01, "Rows": a cell is handed over as "a kind (0 Null, 1 Int, 2 Str, 3 Binary) and a signed 32-bit number",
--- and the number is "ignored on writing" for Null and Binary; all other kinds are unknown (16).
+-- and the number is "ignored on writing" for Null and Binary.
 use Prim.Native.Nat.{ℕ}
 use lib.IntN.{ℤ, pos}
-use Rattle.common.specs.Choice.{if_then_else_, _=?_}
+use mathlib.Core.Bool.{Bool}
+use Rattle.common.specs.Choice.{if_then_else_, _<?_, _=?_}
 use Rattle.value.specs.declared.Cell.{Cell}
 use Rattle.value.specs.declared.Cell.the-variants.{Null, Int, Str, Binary, Unknown}
 
+-- "16: kind of cell does not suit the column, or is unknown": of the numbers that a kind is handed over as, 0 to 3 are known
+abbrev pub unknown : ℕ → Bool
+unknown kind = 3 <? kind
+
 abbrev pub cellOf : ℕ → ℤ → Cell
 cellOf kind n =
-    if kind =? 0 then Null
+    if unknown kind then Unknown
+    else if kind =? 0 then Null
     else if kind =? 1 then Int n
     else if kind =? 2 then Str n
-    else if kind =? 3 then Binary
-    else Unknown
+    else Binary
 
 -- the kind and the number again, 4 for a kind that is unknown, 0 for a number that is ignored
 abbrev pub handedKind : Cell → ℕ

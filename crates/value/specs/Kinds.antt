@@ -3,6 +3,8 @@ use Prim.Native.Nat.{ℕ}
 use lib.IntN.{ℤ, pos}
 use Rattle.value.specs.declared.ValueRef.{ValueRef}
 use Rattle.value.specs.declared.ValueRef.the-variants.{Null, Int, Str, Binary}
+use Rattle.value.specs.declared.Value.{Value}
+use Rattle.value.specs.declared.Value.the-variants as plain
 
 abbrev pub kindOf : ValueRef → ℕ
 kindOf Null = 0
@@ -19,3 +21,16 @@ numberOf Binary = pos 0
 -- both
 abbrev pub cellAs : ValueRef → ℕ × ℤ
 cellAs v = (kindOf v, numberOf v)
+
+-- the same of a value whose text stands beside it: a text has no number
+abbrev pub valueKind : Value → ℕ
+valueKind plain.Null = 0
+valueKind (plain.Int n) = 1
+valueKind plain.Str = 2
+valueKind plain.Binary = 3
+
+abbrev pub valueNumber : Value → ℤ
+valueNumber plain.Null = pos 0
+valueNumber (plain.Int n) = n
+valueNumber plain.Str = pos 0
+valueNumber plain.Binary = pos 0

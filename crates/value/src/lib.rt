@@ -1,4 +1,4 @@
-// What a cell of a table holds: `ValueRef` on reading, and a cell as it is handed over for writing.
+// What a cell of a table holds: `ValueRef` on reading, `Value` with its text beside it, and a cell as it is handed over for writing.
 use string_ref::StringRef;
 ghost use mathlib.Core.Path.{_≡_};
 ghost use Rattle.value.specs.Kinds.{kindOf, numberOf};
@@ -8,6 +8,14 @@ pub enum ValueRef {
     Null,
     Int(i32),
     Str(StringRef),
+    Binary,
+}
+
+// A value whose text, where it is one, stands beside it.
+pub enum Value {
+    Null,
+    Int(i32),
+    Str,
     Binary,
 }
 

@@ -8,8 +8,8 @@ use Rattle.stringpool.specs.declared.shows.Showable.{Showable}
 use Rattle.stringpool.specs.declared.shows.Showable.the-variants as showable
 use Rattle.value.specs.declared.ValueRef.{ValueRef}
 use Rattle.value.specs.declared.ValueRef.the-variants as ref
-use Rattle.pool_values.specs.declared.Value.{Value}
-use Rattle.pool_values.specs.declared.Value.the-variants as plain
+use Rattle.value.specs.declared.Value.{Value}
+use Rattle.value.specs.declared.Value.the-variants as plain
 use Rattle.pool_values.specs.declared.Created.{Created}
 use Rattle.pool_values.specs.declared.Created.the-variants as created
 

@@ -11,6 +11,9 @@ returns c =
     let n = toZ-ofZ {w = w32} {z = c .before .before .before .before .value .given .0 .0} (record { sfits = c .before .before .before .known-told .given .0 .1 }) in
     rw (c .before .before .before .before .value .given .1, sym (rw n at (c .before .before .in-range .ensures)) ∙ c .before .if1 .taken) (rw n at (c .int-fits .ensures))
 
+returns-2 : tie.Need-returns-2
+returns-2 c = rw (c .enum-told .given .1)
+
 returns-3 : tie.Need-returns-3
 returns-3 c =
     let n = toZ-ofZ {w = w32} {z = c .before .before .before .value .given .0 .0} (record { sfits = c .before .before .known-told .given .0 .1 }) in
@@ -29,7 +32,7 @@ allows-spec =
     (λ c κs. search needs)
     (λ c. search needs)
     (λ c κs. search needs)
-    (λ c. rw (c .enum-told .given .1))
+    returns-2
     returns-3
     (λ c. rw (c .before .enum-told2 .given .1) (c .text-fits .ensures))
     (λ c. rw (c .before .enum-told3 .given .1) (c .is-binary .ensures)))

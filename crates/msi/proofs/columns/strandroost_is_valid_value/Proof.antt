@@ -1,4 +1,4 @@
-use Rattle.msi_forms.specs.Values.{valueIn}
+use Rattle.msi_forms.specs.Values.{plainIn}
 use mathlib.Core.Bool.{Bool}
 use Rattle.common.specs.Answers.{Answer, column}
 use Rattle.msi_forms.specs.Answers.{flagIn}
@@ -6,8 +6,7 @@ use Rattle.msi_forms.specs.Columns.{onColumn}
 use Rattle.msi_forms.specs.Unknown.{onKind}
 use Rattle.column.specs.declared.column.Column.{Column}
 use Rattle.column.specs.Check.{checkAnswer}
-use Rattle.value.specs.declared.ValueRef.{ValueRef}
-use Rattle.value.specs.Kinds.{kindOf, numberOf}
+use Rattle.value.specs.declared.Value.{Value}
 use denote.Ref.{now}
 use mir.ValLaws.{toZ-ofZ}
 use mir.Val.{SFits, toZ, ofZ}
@@ -22,8 +21,8 @@ returns c =
     let number-fits : SFits w32 (c .before .before .before .before .before .args .number) = search needs in
     let number-back : toZ w32 (ofZ w32 (c .before .before .before .before .before .args .number)) ≡ c .before .before .before .before .before .args .number = toZ-ofZ w32 (c .before .before .before .before .before .args .number) number-fits in
     let s = c .before .before .before .before .before .args in
-    c .from-check .ensures ∙ ap (λ (a : Answer Bool). flagIn (onKind (column 0) (s .kind) (onColumn (s .column) a))) (c .before .is-valid-value .ensures ∙ ap₂ (λ (x : Column) (v : ValueRef). checkAnswer x (kindOf v) (numberOf v) (now (s .text)))
-    (c .before .before .before .column-in .ensures) (c .before .before .value-in .ensures ∙ ap (valueIn (s .kind)) number-back))
+    c .from-check .ensures ∙ ap (λ (a : Answer Bool). flagIn (onKind (column 0) (s .kind) (onColumn (s .column) a))) (c .before .is-valid-value .ensures ∙ ap₂ (λ (x : Column) (v : Value). checkAnswer x v (now (s .text)))
+    (c .before .before .before .column-in .ensures) (c .before .before .plain-in .ensures ∙ ap (plainIn (s .kind)) number-back))
 
 pub strandroost-is-valid-value-spec : {M : Type 1} → statement M
 strandroost-is-valid-value-spec =

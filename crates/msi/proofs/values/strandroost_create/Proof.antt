@@ -6,8 +6,9 @@ use mir.ValLaws.{toZ-ofZ}
 use denote.Ref.{now}
 use Rattle.stringpool.specs.Pool.{rooms}
 use Rattle.stringpool.specs.declared.pool.StringPool.{StringPool}
-use Rattle.pool_values.specs.declared.Value.{Value}
-use Rattle.pool_values.specs.Pooled.{valueKind, valueNumber, createAnswer, createOutcome}
+use Rattle.value.specs.declared.Value.{Value}
+use Rattle.value.specs.Kinds.{valueKind, valueNumber}
+use Rattle.pool_values.specs.Pooled.{createAnswer, createOutcome}
 use Rattle.msi_forms.specs.Pools.{stateIn}
 use Rattle.msi_forms.specs.Values.{plainIn, createdIn}
 use Rattle.msi.proofs.UnknownKinds.{hands-kind, create-kept}

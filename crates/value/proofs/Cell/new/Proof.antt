@@ -1,5 +1,6 @@
 -- `Cell::new` meets its contract. Assumes nothing.
-use borrow.Author.Tests.{ne-eqb}
+use native.Mathlib.Omega.{arith}
+use borrow.Author.Tests.{lt-ltb}
 use mir.Syntax.{w32}
 use mir.Facts.{toZ-ofZ}
 use Rattle.value.proofs.Cell.new.Statement.{statement}
@@ -12,13 +13,7 @@ returns-3 : tie.Need-returns-3
 returns-3 c = rw (c .if3 .taken, toZ-ofZ {w = w32} {z = c .before .before .before .args .number} (c .before .before .before .fits .number))
 
 returns-5 : tie.Need-returns-5
-returns-5 c =
-    simp (
-      ne-eqb _ _ (c .before .before .before .if1 .left),
-      ne-eqb _ _ (c .before .before .if2 .left),
-      ne-eqb _ _ (c .before .if3 .left),
-      ne-eqb _ _ (c .if4 .left),
-    )
+returns-5 c = rw (lt-ltb 3 (c .before .before .before .before .args .kind) (omega arith))
 
 pub new-spec : {M : Type 1} → statement M
 new-spec = tie.close (tie.spec (λ c. rw (c .if1 .taken)) returns-2 returns-3 (λ c. rw (c .if4 .taken)) returns-5)

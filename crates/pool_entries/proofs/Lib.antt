@@ -2,5 +2,6 @@ pub mod Bytes
 pub mod Calls
 pub mod Entries
 pub mod Look
+pub mod Points
 pub mod Sound
 pub mod Sums

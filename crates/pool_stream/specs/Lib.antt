@@ -1,5 +1,6 @@
 pub mod Entries
 pub mod Plan
+pub mod Points
 pub mod Promises
 pub mod Write
 pub mod inner

@@ -101,9 +101,9 @@ module _ (p : StringPool) (r : ℤ) (w : Rooms) (fit : Fit (p .«num_strings») 
     done : (left : Rooms) → left ≡ putBack n w (downAt es (k .0)) → (gives p, left) ≡ outcome w (onReference r (dropAt p w))
     done left d = ap (λ (y : Rooms). (gives p, y)) (d ∙ put-same p w (downAt es (k .0))) ∙ at (gives (p, house.putBack p w (downAt es (k .0)))) (by-fits f)
 
-    pub drop-more : n ≤ 16777215 → 1 < countAt n (w .counts) (k .0) → Drops p r w (Count (k .0) (countAt n (w .counts) (k .0) - 1))
-    drop-more few z =
-        rw (sym (count-in n [] (w .counts) [] (k .0) h))
+    pub drop-more : n ≤ 16777215 → 1 < countAt n (w .counts) (k .0) → (less : ℕ) → less ≡ countAt n (w .counts) (k .0) - 1 → Drops p r w (Count (k .0) less)
+    drop-more few z less down =
+        rw (down, sym (count-in n [] (w .counts) [] (k .0) h))
         (record { is = done _ (down-more n w fit (k .0) h (omega (arith, z, count-in n [] (w .counts) [] (k .0) h))); ready = (omega (arith, few, h), omega (arith, fit .counts, h)) })
 
     pub drop-last : n ≤ 16777215 → length (w .text) ≤ 268435455 → countAt n (w .counts) (k .0) ≤ 1

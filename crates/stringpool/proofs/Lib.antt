@@ -3,6 +3,7 @@ pub mod Entries
 pub mod House
 pub mod Loads
 pub mod Look
+pub mod Points
 pub mod Signed
 pub mod Sound
 pub mod Streams

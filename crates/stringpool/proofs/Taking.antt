@@ -91,18 +91,19 @@ module _ (p : StringPool) (w : Rooms) (fit : Fit (p .«num_strings») w) (t : Li
     same-pool {left} = ap (λ (b : Bool). (gives (pos (k .0 + 1), if b then p else counting p (k .0 + 1)), left)) (lt-ltb (k .0) n hk)
 
     -- an equal entry counts up
-    pub equal-done : n ≤ 16777215 → 0 < getD (w .counts) (k .0) 0 → At p w t (k .0) (Count (k .0) (getD (w .counts) (k .0) 0 + 1))
-    equal-done m z =
+    pub equal-done : n ≤ 16777215 → 0 < getD (w .counts) (k .0) 0 → (more : ℕ) → more ≡ getD (w .counts) (k .0) 0 + 1 → At p w t (k .0) (Count (k .0) more)
+    equal-done m z more up =
         let c : ℕ = getD es (k .0) none .count in
         let e : Entry = entry (getD es (k .0) none .text) (c + 1) in
         let f : increased t (getD es (k .0) none) ≡ e =
         ap (λ (b : Bool). if b then entry t 1 else e) (ne-eqb c 0 (λ i. omega (arith, z, i, count-at n w fit (k .0) hk))) in
-        record {
+        rw up
+        (record {
           is = done-at e f (omega (arith, fit .text, length-same n w fit (k .0) hk (c + 1))) _
               (sym (put-count n w fit (k .0) hk (getD (w .counts) (k .0) 0 + 1))
               ∙ ap (λ (i : ℕ). putBack n w (set es (k .0) (record { text = getD es (k .0) none .text; count = i + 1 }))) (sym (count-at n w fit (k .0) hk)));
           ready = (omega arith, omega (arith, fit .counts));
-        }
+        })
 
     module _ (z : getD (w .counts) (k .0) 0 ≡ 0) where
       pub free-full : length (w .text) < total (take n (w .lengths)) - getD (w .lengths) (k .0) 0 + length t

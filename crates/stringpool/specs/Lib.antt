@@ -1,6 +1,7 @@
 pub mod Drop
 pub mod Load
 pub mod Pages
+pub mod Points
 pub mod Pool
 pub mod Refs
 pub mod Show

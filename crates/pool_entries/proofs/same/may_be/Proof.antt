@@ -1,5 +1,4 @@
 use mathlib.Core.Path.{sym}
-use Prim.Native.Nat.{_+_, _-_}
 use native.Mathlib.Omega.{arith}
 use borrow.Author.Needs.{needs}
 use borrow.Author.Tests.{eqb-false}
@@ -13,7 +12,7 @@ returns c = λ z t e w h. absurd (omega arith)
 returns-2 : tie.Need-returns-2
 returns-2 c =
     let s = c .before .before .before .before in
-    λ z t e w h. part-differs (s .args .text .now) t (s .args .at) (s .args .size) (s .args .at + s .args .size - 8) (c .eight .result) (s .args .word) h (omega arith) e (omega arith) (c .eight .ensures) w (eqb-false _ _ z)
+    λ z t e w h. part-differs (s .args .text .now) t (s .args .at) (s .args .size) _ (c .eight .result) (s .args .word) h (omega arith) e (omega arith) (c .eight .ensures) w (λ q. omega (arith, eqb-false, z, q))
 
 returns-3 : tie.Need-returns-3
 returns-3 c = λ z. absurd (true-false (sym z))

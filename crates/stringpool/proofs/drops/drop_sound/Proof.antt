@@ -43,7 +43,8 @@ returns-3 c =
     let w = rooms (s .args .lengths .now) (s .args .counts .now) ts in
     let fit : Fit (s .args .p .«num_strings») w = record { lengths = s .pre .0; counts = s .pre .1; text = omega (arith, s .pre .3, h) } in
     let at = sym (c .before .before .before .before .before .before .before .before .place .ensures) ∙ c .before .before .before .before .before .before .place2 .given .1 in
-    rw (c .before .before .before .before .count-of .ensures) (drop-more (s .args .p) (s .args .r .0) w fit _ at (fits (c .before)) (s .pre .2) (omega (arith, c .if1 .taken, c .before .before .before .before .count-of .ensures)))
+    drop-more (s .args .p) (s .args .r .0) w fit _ at (fits (c .before)) (s .pre .2) (omega (arith, c .if1 .taken, c .before .before .before .before .count-of .ensures)) _
+    (omega (arith, c .before .before .before .before .count-of .ensures))
 
 start-of-requires : tie.Need-start-of-requires
 start-of-requires c κs =

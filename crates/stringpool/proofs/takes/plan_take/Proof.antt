@@ -68,7 +68,7 @@ returns-2 c =
     let w = rooms (s .args .lengths .now) (s .args .counts .now) (s .args .text .now) in
     let h = look-equal (s .args .p) w (s .args .new .now) _ _ _ _ (c .before .before .before .before .before .before .before .look .ensures) (c .before .before .before .before .before .judged2 .given .1) _ (c .before .before .chosen .given .1) in
     look-taken (s .args .p) w (s .args .new .now) _ _ _ _ (c .before .before .before .before .before .before .before .look .ensures) (c .before .before .before .before .before .judged2 .given .1) _ (sym (ap (placeIn (entriesOf (s .args .p .«num_strings») w)) (c .before .before .chosen .given .1))) _
-    (equal-done (s .args .p) w (look-known (s .args .p) w (s .args .new .now) _ _ _ _ (c .before .before .before .before .before .before .before .look .ensures) (c .before .before .before .before .before .judged2 .given .1) .fit) (s .args .new .now) _ (h .0) (look-known (s .args .p) w (s .args .new .now) _ _ _ _ (c .before .before .before .before .before .before .before .look .ensures) (c .before .before .before .before .before .judged2 .given .1) .few) (h .1))
+    (equal-done (s .args .p) w (look-known (s .args .p) w (s .args .new .now) _ _ _ _ (c .before .before .before .before .before .before .before .look .ensures) (c .before .before .before .before .before .judged2 .given .1) .fit) (s .args .new .now) _ (h .0) (look-known (s .args .p) w (s .args .new .now) _ _ _ _ (c .before .before .before .before .before .before .before .look .ensures) (c .before .before .before .before .before .judged2 .given .1) .few) (h .1) _ (omega arith))
 
 returns-3 : tie.Need-returns-3
 returns-3 c =

@@ -1,7 +1,8 @@
-use mathlib.Core.Path.{sym}
-use Prim.Native.Nat.{_-_}
+use mathlib.Core.Path.{_≡_, sym}
+use Prim.Native.Nat.{ℕ, _+_, _-_}
 use native.Mathlib.Omega.{arith}
-use lib.ListN.{replicate, length-replicate, getD-replicate}
+use mathlib.Core.List.{List}
+use lib.ListN.{set, replicate, length-replicate, getD-replicate}
 use Rattle.common.proofs.Run.{Run, run-start, run-turn, run-end}
 use Rattle.text_room.proofs.text.zero.Statement.{statement}
 use Rattle.text_room.proofs.text.zero.Tie as tie
@@ -15,11 +16,16 @@ abbrev μ-loop : tie.MeasureT-loop
 loop-holds : tie.Need-loop-holds Inv-loop μ-loop
 loop-holds c = run-start _ _ _ _
 
+-- a store at a place by another name
+store : {d : List ℕ} {at : ℕ} {s : List ℕ} {n : ℕ} (t : List ℕ) (j k : ℕ) → k ≡ at + j → Run d at s n (set t (at + j) 0) (j + 1) → Run d at s n (set t k 0) (j + 1)
+store t j k e r = rw e r
+
 loop-again : tie.Need-loop-again Inv-loop μ-loop
 loop-again c =
     let l = c .before in
     let s = l .before in
-    run-turn 0 0 (omega arith) (simp length-replicate (omega arith)) (l .loop .inv) (c .loop-test .taken) (sym (getD-replicate (s .args .size) (l .loop .j) 0 0 (c .loop-test .taken)))
+    store (l .loop .text) (l .loop .j) _ (omega arith)
+    (run-turn 0 0 (omega arith) (simp length-replicate (omega arith)) (l .loop .inv) (c .loop-test .taken) (sym (getD-replicate (s .args .size) (l .loop .j) 0 0 (c .loop-test .taken))))
 
 same-length : tie.Need-same-length Inv-loop μ-loop
 same-length c = c .before .loop .inv .long

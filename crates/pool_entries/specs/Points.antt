@@ -1,0 +1,67 @@
+-- Points: a state at each bound of its soundness and one off, 22 before 24, and which entry a take chooses, computed from the definitions. What
+-- is of millions of entries or bytes is a law.
+use mathlib.Core.Path.{_≡_}
+use mathlib.Core.Bool.{Bool, true, false}
+use mathlib.Core.List.{List, [], _∷_}
+use Prim.Native.Nat.{ℕ, _≤_, _<_}
+use lib.ListN.{length, take}
+use Rattle.common.specs.Lists.{total}
+use Rattle.common.specs.Sizes.{maxBytes, maxEntries}
+use Rattle.common.specs.Answers.{gives, refused, nowhere}
+use Rattle.pool_entries.specs.Entries.{Entry, entry, Rooms, rooms}
+use Rattle.pool_entries.specs.Sound.{sound}
+use Rattle.pool_entries.specs.Calls.{judgeAnswer, chooseAnswer}
+use Rattle.pool_entries.specs.Choose.{equal, firstFreeOrEqual}
+
+-- ---- 22, then 24
+
+-- "text room at most 268,435,455 bytes": above it 22, whatever the state, so also an unsound one; at it a sound state is judged so
+abbrev pub SizeFirst : Type 0
+SizeFirst = ((n codepage : ℕ) (w : Rooms) → maxBytes < length (w .text) → judgeAnswer n codepage w ≡ refused 22 nowhere)
+    × ((n codepage : ℕ) (w : Rooms) → length (w .text) ≤ maxBytes → sound n codepage w ≡ true → judgeAnswer n codepage w ≡ gives (total (take n (w .lengths))))
+
+-- the same for "texts handed in"
+abbrev pub TextFirst : Type 0
+TextFirst = (n codepage : ℕ) (w : Rooms) (t : List ℕ) → maxBytes < length t → chooseAnswer n codepage w t ≡ refused 22 nowhere
+
+-- ---- "24 pool state unsound"
+
+-- "entries fit their rooms": two entries in rooms for two lengths and two counts, two and one, one and two
+abbrev pub EntriesFit : Type 0
+EntriesFit = (sound 2 0 (rooms (0 ∷ 0 ∷ []) (1 ∷ 1 ∷ []) []) ≡ true) × (sound 2 0 (rooms (0 ∷ 0 ∷ []) (1 ∷ []) []) ≡ false)
+    × (sound 2 0 (rooms (0 ∷ []) (1 ∷ 1 ∷ []) []) ≡ false)
+
+-- "and number at most 16,777,215": more are unsound in any rooms
+abbrev pub TooMany : Type 0
+TooMany = (n codepage : ℕ) (w : Rooms) → maxEntries < n → sound n codepage w ≡ false
+
+-- "the code page has 31 bits"
+abbrev pub CodePage : Type 0
+CodePage = (sound 0 2147483647 (rooms [] [] []) ≡ true) × (sound 0 2147483648 (rooms [] [] []) ≡ false)
+
+-- "lengths sum to at most the text room"
+abbrev pub LengthsSum : Type 0
+LengthsSum = (sound 2 0 (rooms (1 ∷ 2 ∷ []) (1 ∷ 1 ∷ []) (65 ∷ 66 ∷ 67 ∷ [])) ≡ true) × (sound 2 0 (rooms (1 ∷ 2 ∷ []) (1 ∷ 1 ∷ []) (65 ∷ 66 ∷ [])) ≡ false)
+
+-- "an entry with count 0 has at most 65,535 bytes": one entry of a length and a count, whose bytes are all there
+abbrev pub OneEntry : ℕ → ℕ → Bool → Type 0
+OneEntry l c is = (ts : List ℕ) → length ts ≡ l → sound 1 0 (rooms (l ∷ []) (c ∷ []) ts) ≡ is
+
+abbrev pub FreeBytes : Type 0
+FreeBytes = OneEntry 65535 0 true × OneEntry 65536 0 false × OneEntry 65536 1 true
+
+-- ---- the entry that a take chooses
+
+-- "that has the same bytes and a count below 65,535"
+abbrev pub CountsUp : Type 0
+CountsUp = (equal (65 ∷ []) (entry (65 ∷ []) 65534) ≡ true) × (equal (65 ∷ []) (entry (65 ∷ []) 65535) ≡ false)
+    × (equal (65 ∷ []) (entry (66 ∷ []) 1) ≡ false) × (equal (65 ∷ []) (entry (65 ∷ 65 ∷ []) 1) ≡ false)
+
+-- "in entry order, the first entry that is free (count 0) or that has the same bytes": a free one before an equal one, an equal one before a free
+-- one; past one of other bytes and one that is full; with none, the place after the last
+abbrev pub FirstOfThem : Type 0
+FirstOfThem = (firstFreeOrEqual (65 ∷ []) (entry (66 ∷ []) 1 ∷ entry [] 0 ∷ entry (65 ∷ []) 1 ∷ []) ≡ 1)
+    × (firstFreeOrEqual (65 ∷ []) (entry (66 ∷ []) 1 ∷ entry (65 ∷ []) 1 ∷ entry [] 0 ∷ []) ≡ 1)
+    × (firstFreeOrEqual (65 ∷ []) (entry (65 ∷ []) 65535 ∷ entry (65 ∷ []) 65534 ∷ []) ≡ 1)
+    × (firstFreeOrEqual (65 ∷ []) (entry (66 ∷ []) 0 ∷ []) ≡ 0)
+    × (firstFreeOrEqual (65 ∷ []) (entry (65 ∷ []) 65535 ∷ []) ≡ 1)

@@ -1,0 +1,97 @@
+-- The points of specs/Points.antt, by computation.
+use mathlib.Core.Path.{_≡_, refl, ap, ap₂, _∙_}
+use Prim.Native.Nat.{ℕ}
+use native.Mathlib.Omega.{arith}
+use mathlib.Core.Bool.{Bool, true, false, not, _&&_}
+use mathlib.Core.List.{List}
+use lib.ListN.{length}
+use lib.IntN.{ℤ}
+use borrow.Author.Tests.{le-leb, lt-leb}
+use Rattle.common.specs.Choice.{if_then_else_, _≤?_}
+use Rattle.common.specs.Answers.{Answer, gives, refused, nowhere, onGiven}
+use Rattle.order.specs.Order.{textFits}
+use Rattle.pool_entries.specs.Sound.{sound}
+use Rattle.pool_stream.specs.Entries.{entryBytes}
+use Rattle.stringpool.specs.Pool.{Rooms, entriesOf, entryRoom, texts, putBack}
+use Rattle.stringpool.specs.Refs.{referenceTo}
+use Rattle.stringpool.specs.Take.{takenAt, counting}
+use Rattle.stringpool.specs.declared.pool.StringPool.{StringPool}
+use Rattle.stringpool.specs.Points.{DropOrder, CountsDown, FreeWithBytes, FreeExactly, ChoiceStays, CountFull, EntryRoom, FullFirst, NothingButSix, UnsoundFirst, UnsoundThen, UnsoundTake, CodePage, Marked, OutputRoom}
+
+-- a take at k by its first three tests
+abbrev By : StringPool → Rooms → List ℕ → ℕ → Bool → Bool → Bool → Answer ((ℤ × StringPool) × Rooms)
+By p w t k new full last =
+    let es = entriesOf p w in
+    let after = takenAt t k es in
+    let fits = textFits (length (texts after)) (length (w .text)) in
+    onGiven
+    (if new then (if full then refused 11 nowhere else if last then refused 12 nowhere else if entryRoom w ≤? length es then refused 4 nowhere else fits) else fits)
+    (λ _. gives ((referenceTo k, counting p (length after)), putBack p w after))
+
+pub drop-order : DropOrder
+unfolding sound entryBytes
+drop-order = (refl, refl, refl, refl, refl)
+
+pub counts-down : CountsDown
+unfolding sound entryBytes
+counts-down = (refl, refl, refl)
+
+pub free-with-bytes : FreeWithBytes
+unfolding sound entryBytes
+free-with-bytes = refl
+
+pub free-exactly : FreeExactly
+unfolding sound entryBytes
+free-exactly = (refl, refl)
+
+pub choice-stays : ChoiceStays
+unfolding sound entryBytes
+choice-stays = refl
+
+pub count-full : CountFull
+unfolding sound entryBytes
+count-full = (refl, refl, refl)
+
+pub entry-room : EntryRoom
+unfolding sound entryBytes
+entry-room = (refl, refl, refl)
+
+pub full-first : FullFirst
+full-first = (
+  λ p w t e h.
+      let n : ℕ = length (entriesOf p w) in
+      ap₂ (λ (a b : Bool). By p w t n a b (16777215 ≤? n)) (le-leb n n (omega arith)) (ap₂ (λ (l m : Bool). not l && m) e (le-leb 65535 n h)),
+  λ p w t e h.
+      let n : ℕ = length (entriesOf p w) in
+      ap₂ (λ (a b : Bool). By p w t n a b (16777215 ≤? n)) (le-leb n n (omega arith)) (ap (λ (l : Bool). not l && 65535 ≤? n) e)
+      ∙ ap (By p w t n true false) (le-leb 16777215 n h),
+)
+
+pub nothing-but-six : NothingButSix
+nothing-but-six p w t k h =
+    let n : ℕ = length (entriesOf p w) in
+    ap (λ (a : Bool). By p w t k a (not (p .«long_string_refs») && 65535 ≤? n) (16777215 ≤? n)) (lt-leb n k h)
+
+pub unsound-first : UnsoundFirst
+unfolding sound entryBytes
+unsound-first = (refl, refl, refl)
+
+pub unsound-then : UnsoundThen
+unfolding sound entryBytes
+unsound-then = (refl, refl, refl)
+
+pub unsound-take : UnsoundTake
+unfolding sound entryBytes
+unsound-take = refl
+
+pub code-page : CodePage
+unfolding sound entryBytes
+code-page = (refl, refl, refl)
+
+pub marked : Marked
+unfolding sound entryBytes
+marked = (refl, refl)
+
+pub output-room : OutputRoom
+unfolding sound entryBytes
+output-room = (refl, refl, refl, refl)

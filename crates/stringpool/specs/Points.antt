@@ -1,0 +1,134 @@
+-- Points: what the calls on a pool answer and leave at their bounds and where two refusals meet, computed from the definitions. What is of more
+-- entries than can be written out is a law.
+use mathlib.Core.Path.{_≡_}
+use mathlib.Core.Bool.{true, false}
+use mathlib.Core.List.{List, [], _∷_}
+use Prim.Native.Nat.{ℕ, _≤_, _<_}
+use lib.ListN.{length}
+use lib.IntN.{ℤ, pos, negsuc}
+use Rattle.common.specs.Answers.{gives, refused, nowhere, onGiven}
+use Rattle.order.specs.Order.{textFits}
+use Rattle.stringpool.specs.Pool.{Rooms, rooms, entriesOf, texts, putBack}
+use Rattle.stringpool.specs.Refs.{referenceTo}
+use Rattle.stringpool.specs.Show.{showAnswer, refcountAnswer}
+use Rattle.stringpool.specs.Take.{takenAt, counting, takeAt, takeOutcome, firstFreeOrEqual}
+use Rattle.stringpool.specs.Drop.{dropOutcome}
+use Rattle.stringpool.specs.Load.{loadOutcome}
+use Rattle.stringpool.specs.Pages.{newAnswer, setPageAnswer}
+use Rattle.stringpool.specs.Write.{poolBytes, dataBytes, writeOutcome}
+use Rattle.stringpool.specs.declared.pool.StringPool.{StringPool}
+
+-- a pool of n entries with short references, of code page 0
+abbrev pub short : ℕ → StringPool
+short n = record { «num_strings» = n; «long_string_refs» = false; codepage = 0 }
+
+-- a drop of that number, and a take of that text, are refused so, and leave the rooms as they were
+abbrev pub DropRefused : StringPool → Rooms → ℤ → ℕ → Type 0
+DropRefused p w r n = dropOutcome p w r ≡ (refused n nowhere, w)
+
+abbrev pub TakeRefused : StringPool → Rooms → List ℕ → ℕ → Type 0
+TakeRefused p w t n = takeOutcome firstFreeOrEqual p w t ≡ (refused n nowhere, w)
+
+-- a drop leaves these rooms; a take answers that number, and leaves these and a pool of so many entries
+abbrev pub Drops : StringPool → Rooms → ℤ → Rooms → Type 0
+Drops p w r v = dropOutcome p w r ≡ (gives p, v)
+
+abbrev pub Takes : ℕ → Rooms → List ℕ → ℕ → ℕ → Rooms → Type 0
+Takes n w t r m v = takeOutcome firstFreeOrEqual (short n) w t ≡ (gives (pos r, short m), v)
+
+-- ---- drop
+
+-- "AB" twice and "C" once, then an entry and a byte past the used part
+abbrev pub two : Rooms
+two = rooms (2 ∷ 1 ∷ 9 ∷ []) (2 ∷ 1 ∷ 0 ∷ []) (65 ∷ 66 ∷ 67 ∷ 7 ∷ [])
+
+-- "Drop: 8, 9, 10": a number out of range is past the last entry too; one past the last, where the room has a count of 0
+abbrev pub DropOrder : Type 0
+DropOrder = DropRefused (short 2) two (pos 0) 8 × DropRefused (short 2) two (negsuc 0) 8 × DropRefused (short 2) two (pos 16777216) 8
+    × DropRefused (short 2) two (pos 16777215) 9 × DropRefused (short 2) two (pos 3) 9
+
+-- "count down; at 0 the text goes": a count of 2, and of 1, the first or the last; "bytes given up by a shorter total become 0"
+abbrev pub CountsDown : Type 0
+CountsDown = Drops (short 2) two (pos 1) (rooms (2 ∷ 1 ∷ 9 ∷ []) (1 ∷ 1 ∷ 0 ∷ []) (65 ∷ 66 ∷ 67 ∷ 7 ∷ []))
+    × Drops (short 2) two (pos 2) (rooms (2 ∷ 0 ∷ 9 ∷ []) (2 ∷ 0 ∷ 0 ∷ []) (65 ∷ 66 ∷ 0 ∷ 7 ∷ []))
+    × Drops (short 2) (rooms (2 ∷ 1 ∷ 9 ∷ []) (1 ∷ 1 ∷ 0 ∷ []) (65 ∷ 66 ∷ 67 ∷ 7 ∷ [])) (pos 1) (rooms (0 ∷ 1 ∷ 9 ∷ []) (0 ∷ 1 ∷ 0 ∷ []) (67 ∷ 0 ∷ 0 ∷ 7 ∷ []))
+
+-- "A loaded free entry may hold bytes; dropping it is 10."
+abbrev pub FreeWithBytes : Type 0
+FreeWithBytes = DropRefused (short 1) (rooms (3 ∷ []) (0 ∷ []) (88 ∷ 89 ∷ 90 ∷ [])) (pos 1) 10
+
+-- ---- take
+
+-- "A free one gets the text and count 1, and any old bytes go"; "6 exactly if the total after the replacement or addition exceeds the text room":
+-- a free "XYZ" and "A" in a room of 5, to get 4 bytes, and 5
+abbrev pub freeFirst : Rooms
+freeFirst = rooms (3 ∷ 1 ∷ []) (0 ∷ 1 ∷ []) (88 ∷ 89 ∷ 90 ∷ 65 ∷ 7 ∷ [])
+
+abbrev pub FreeExactly : Type 0
+FreeExactly = Takes 2 freeFirst (1 ∷ 2 ∷ 3 ∷ 4 ∷ []) 1 2 (rooms (4 ∷ 1 ∷ []) (1 ∷ 1 ∷ []) (1 ∷ 2 ∷ 3 ∷ 4 ∷ 65 ∷ [])) × TakeRefused (short 2) freeFirst (1 ∷ 2 ∷ 3 ∷ 4 ∷ 5 ∷ []) 6
+
+-- "the chosen entry stays the choice, even where a later one is equal": a free one, then "ABC" in a room of 3
+abbrev pub ChoiceStays : Type 0
+ChoiceStays = TakeRefused (short 2) (rooms (0 ∷ 3 ∷ []) (0 ∷ 1 ∷ []) (65 ∷ 66 ∷ 67 ∷ [])) (65 ∷ 66 ∷ 67 ∷ []) 6
+
+-- "the same bytes and a count below 65,535": 65,534 counts up, and beside 65,535 an entry is added; its 6 at the room of one byte
+abbrev pub CountFull : Type 0
+CountFull = Takes 1 (rooms (1 ∷ 9 ∷ []) (65534 ∷ 8 ∷ []) (65 ∷ 7 ∷ [])) (65 ∷ []) 1 1 (rooms (1 ∷ 9 ∷ []) (65535 ∷ 8 ∷ []) (65 ∷ 7 ∷ []))
+    × Takes 1 (rooms (1 ∷ 9 ∷ []) (65535 ∷ 8 ∷ []) (65 ∷ 7 ∷ [])) (65 ∷ []) 2 2 (rooms (1 ∷ 1 ∷ []) (65535 ∷ 1 ∷ []) (65 ∷ 65 ∷ []))
+    × TakeRefused (short 1) (rooms (1 ∷ 9 ∷ []) (65535 ∷ 8 ∷ []) (65 ∷ [])) (65 ∷ []) 6
+
+-- "4 more entries than the lent entry room holds", "the shorter of the lent lengths and counts": "A", and a second entry in rooms for two and one, one
+-- and two, two and two
+abbrev pub EntryRoom : Type 0
+EntryRoom = TakeRefused (short 1) (rooms (1 ∷ 9 ∷ []) (1 ∷ []) (65 ∷ 7 ∷ [])) (66 ∷ []) 4 × TakeRefused (short 1) (rooms (1 ∷ []) (1 ∷ 8 ∷ []) (65 ∷ 7 ∷ [])) (66 ∷ []) 4
+    × Takes 1 (rooms (1 ∷ 9 ∷ []) (1 ∷ 8 ∷ []) (65 ∷ 7 ∷ [])) (66 ∷ []) 2 2 (rooms (1 ∷ 1 ∷ []) (1 ∷ 1 ∷ []) (65 ∷ 66 ∷ []))
+
+-- "Take: 11, 12, 4, 6": where a new entry is wanted, 11 and 12 whatever the rooms, so also without room for it or its text
+abbrev pub FullFirst : Type 0
+FullFirst = ((p : StringPool) (w : Rooms) (t : List ℕ) → p .«long_string_refs» ≡ false → 65535 ≤ length (entriesOf p w) → takeAt p w t (length (entriesOf p w)) ≡ refused 11 nowhere)
+    × ((p : StringPool) (w : Rooms) (t : List ℕ) → p .«long_string_refs» ≡ true → 16777215 ≤ length (entriesOf p w) → takeAt p w t (length (entriesOf p w)) ≡ refused 12 nowhere)
+
+-- "A take may then answer a free number above 65,535": where an entry is chosen, at whatever place, nothing but 6 is refused
+abbrev pub NothingButSix : Type 0
+NothingButSix = (p : StringPool) (w : Rooms) (t : List ℕ) (k : ℕ) → k < length (entriesOf p w)
+    → takeAt p w t k
+    ≡ onGiven (textFits (length (texts (takenAt t k (entriesOf p w)))) (length (w .text)))
+    (λ _. gives ((referenceTo k, counting p (length (takenAt t k (entriesOf p w)))), putBack p w (takenAt t k (entriesOf p w))))
+
+-- ---- "Order: 22 first, then 24": two entries in rooms for one length
+
+abbrev pub unsound : Rooms
+unsound = rooms (1 ∷ []) (1 ∷ 1 ∷ []) (65 ∷ [])
+
+-- before 8
+abbrev pub UnsoundFirst : Type 0
+UnsoundFirst = (showAnswer (short 2) unsound (pos 0) ≡ refused 24 nowhere) × (refcountAnswer (short 2) unsound (pos 0) ≡ refused 24 nowhere) × DropRefused (short 2) unsound (pos 0) 24
+
+-- before 21, and before 7, whose output keeps its byte
+abbrev pub UnsoundThen : Type 0
+UnsoundThen = (setPageAnswer (short 2) unsound 4294967295 ≡ refused 24 nowhere)
+    × (writeOutcome (short 2) unsound (poolBytes (short 2) unsound) (7 ∷ []) ≡ (refused 24 nowhere, 7 ∷ []))
+    × (writeOutcome (short 2) unsound (dataBytes (short 2) unsound) [] ≡ (refused 24 nowhere, []))
+
+-- before 4 and 6 of a take
+abbrev pub UnsoundTake : Type 0
+UnsoundTake = TakeRefused (short 2) unsound (66 ∷ []) 24
+
+-- ---- new, page, load, write
+
+-- "Making an empty (short) pool or setting the code page: 21."
+abbrev pub CodePage : Type 0
+CodePage = (newAnswer 2147483647 ≡ gives (record { «num_strings» = 0; «long_string_refs» = false; codepage = 2147483647 })) × (newAnswer 2147483648 ≡ refused 21 nowhere)
+    × (setPageAnswer (short 2) two 2147483648 ≡ refused 21 nowhere)
+
+-- "bit 31 says long references (3 bytes), the rest is the code page"
+abbrev pub Marked : Type 0
+Marked = (loadOutcome (255 ∷ 255 ∷ 255 ∷ 255 ∷ []) [] two ≡ (gives (record { «num_strings» = 0; «long_string_refs» = true; codepage = 2147483647 }), two))
+    × (loadOutcome (255 ∷ 255 ∷ 255 ∷ 127 ∷ []) [] two ≡ (gives (record { «num_strings» = 0; «long_string_refs» = false; codepage = 2147483647 }), two))
+
+-- "7 output too small for the whole result": a pool stream of 4 bytes to 3, and to 5; a data stream of 3 bytes to 2
+abbrev pub OutputRoom : Type 0
+OutputRoom = (writeOutcome (short 0) two (poolBytes (short 0) two) (7 ∷ 7 ∷ 7 ∷ []) ≡ (refused 7 nowhere, 7 ∷ 7 ∷ 7 ∷ []))
+    × (writeOutcome (short 0) two (poolBytes (short 0) two) (7 ∷ 7 ∷ 7 ∷ 7 ∷ 7 ∷ []) ≡ (gives 4, 0 ∷ 0 ∷ 0 ∷ 0 ∷ 7 ∷ []))
+    × (writeOutcome (short 2) two (dataBytes (short 2) two) (7 ∷ 7 ∷ []) ≡ (refused 7 nowhere, 7 ∷ 7 ∷ []))
+    × (writeOutcome (short 2) two (dataBytes (short 2) two) (7 ∷ 7 ∷ 7 ∷ []) ≡ (gives 3, 65 ∷ 66 ∷ 67 ∷ []))

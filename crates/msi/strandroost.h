@@ -281,7 +281,7 @@ struct strandroost_column_answer strandroost_column_from_bitfield(struct strandr
 /* The bits of a column. 19: a Str maximum above 255; or 16: an unknown type. */
 struct strandroost_reference strandroost_column_bitfield(struct strandroost_column column);
 
-/* Whether a value suits a column; `text` stands beside a value of kind 2, and its length counts.
+/* Whether a value suits a column; `number` counts for an Int alone; `text` stands beside a value of kind 2, and its length counts.
  * 22: the text, whatever the kind, over 268,435,455 bytes. Then the column: 19 or 16. Then the value: 16, at column 0. */
 struct strandroost_flag strandroost_is_valid_value(struct strandroost_column column, uint8_t kind, int32_t number,
                                                    const uint8_t *text, size_t text_len);

@@ -275,12 +275,12 @@ pub struct RoomsMut<'a> {
     pub text: &'a mut [u8],
 }
 
-/// A cell by its kind and number.
+/// A cell, or a value with its text beside it, by its kind and number.
 #[derive(Clone, Copy, Debug, PartialEq, Eq)]
 pub struct KindAndNumber {
     /// 0 Null, 1 Int, 2 Str, 3 Binary. Any other is unknown, and 16 wherever a cell is handed over.
     pub kind: u8,
-    /// The number; 0 for Null and Binary on reading, ignored there on writing.
+    /// The number; 0 for Null and Binary on reading, ignored there on writing. A value with its text beside it has one only as an Int.
     pub number: i32,
 }
 
@@ -623,11 +623,12 @@ pub fn column_bitfield(column: ColumnParts) -> Result<i32> {
     given(answer.refused, answer.value)
 }
 
-/// Whether a value suits a column; a text stands beside a cell of kind 2. Refused with 22, the column's 19 or 16, the value's 16.
-pub fn is_valid_value(column: ColumnParts, cell: KindAndNumber, text: &[u8]) -> Result<bool> {
+/// Whether a value suits a column; its number counts for an Int alone, and a text stands beside a value of kind 2. Refused with 22,
+/// the column's 19 or 16, the value's 16.
+pub fn is_valid_value(column: ColumnParts, value: KindAndNumber, text: &[u8]) -> Result<bool> {
     // SAFETY: the call stays within these slices, as above.
     let answer =
-        unsafe { c::strandroost_is_valid_value(column.to_c(), cell.kind, cell.number, text.as_ptr(), text.len()) };
+        unsafe { c::strandroost_is_valid_value(column.to_c(), value.kind, value.number, text.as_ptr(), text.len()) };
     given(answer.refused, answer.value)
 }
 

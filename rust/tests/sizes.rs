@@ -1,4 +1,5 @@
-//! The sizes of document 01 that need rooms of 33 to 268 megabytes: refusals 3, 12 and 22 at their bounds, and one below.
+//! The sizes of document 01 that need rooms of 33 to 268 megabytes: refusals 3, 12 and 22, each at the last input that
+//! is taken and at the first that is refused.
 
 use strandroost::calls::{self, KindAndNumber, Rooms, RoomsMut, State};
 use strandroost::Table;

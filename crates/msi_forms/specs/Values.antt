@@ -21,7 +21,7 @@ use Rattle.msi_forms.specs.Unknown.{onKind}
 use Rattle.msi_forms.specs.declared.answers.ColumnParts.{ColumnParts}
 use Rattle.msi_forms.specs.declared.answers.CreateAnswer.{CreateAnswer}
 
--- "0 Null, 1 Int, 2 Str, 3 Binary"; a value of any other kind is judged as a Binary is, and then refused
+-- "0 Null, 1 Int, 2 Str, 3 Binary"; an unknown kind is judged as Binary is, and `onKind` then refuses it
 abbrev pub valueIn : ℕ → ℤ → ValueRef
 valueIn kind n =
     if kind =? 0 then values.Null

@@ -2,6 +2,9 @@ use borrow.Author.Needs.{needs}
 use Rattle.common.proofs.refusal.Refusal.number.Statement.{statement}
 use Rattle.common.proofs.refusal.Refusal.number.Tie as tie
 
+returns-25 : tie.Need-returns-25
+returns-25 c = rw (c .enum-told25 .given .1)
+
 pub number-spec : {M : Type 1} → statement M
 number-spec =
     tie.close
@@ -55,4 +58,4 @@ number-spec =
     (λ c. rw (c .enum-told22 .given .1))
     (λ c. rw (c .enum-told23 .given .1))
     (λ c. rw (c .enum-told24 .given .1))
-    (λ c. rw (c .enum-told25 .given .1)))
+    returns-25)

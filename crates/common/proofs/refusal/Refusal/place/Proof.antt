@@ -2,6 +2,9 @@ use borrow.Author.Needs.{needs}
 use Rattle.common.proofs.refusal.Refusal.place.Statement.{statement}
 use Rattle.common.proofs.refusal.Refusal.place.Tie as tie
 
+returns-17 : tie.Need-returns-17
+returns-17 c = rw (c .before .self3 .given .1)
+
 pub place-spec : {M : Type 1} → statement M
 place-spec =
     tie.close
@@ -47,7 +50,7 @@ place-spec =
     (λ c. rw (c .before .self2 .given .1))
     (λ c. rw (c .enum-told13 .given .1))
     (λ c. rw (c .enum-told14 .given .1))
-    (λ c. rw (c .before .self3 .given .1))
+    returns-17
     (λ c. rw (c .before .self4 .given .1))
     (λ c. rw (c .before .self5 .given .1))
     (λ c. rw (c .before .self6 .given .1))

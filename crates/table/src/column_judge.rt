@@ -17,11 +17,11 @@ pub(crate) fn judge_column(form: CellForm, kinds: &[u8], numbers: &[i32], run: S
     ensures { λ r. ⌜ fitsAs r ≡ refusalOf (each (cellNumber form (now (kinds .entry)) (now (numbers .entry)) run) (from 0 (run .rows))) ⌝ }
 {
     match form {
-        CellForm::Int16 => judge_cells(CellForm::Int16, kinds, numbers, run),
-        CellForm::Int32 => judge_cells(CellForm::Int32, kinds, numbers, run),
-        CellForm::ShortRef => judge_cells(CellForm::ShortRef, kinds, numbers, run),
-        CellForm::LongRef => judge_cells(CellForm::LongRef, kinds, numbers, run),
-        CellForm::Binary => judge_cells(CellForm::Binary, kinds, numbers, run),
+        CellForm::Int16 => judge_cells(CellForm::Int16, kinds, numbers, run.again()),
+        CellForm::Int32 => judge_cells(CellForm::Int32, kinds, numbers, run.again()),
+        CellForm::ShortRef => judge_cells(CellForm::ShortRef, kinds, numbers, run.again()),
+        CellForm::LongRef => judge_cells(CellForm::LongRef, kinds, numbers, run.again()),
+        CellForm::Binary => judge_cells(CellForm::Binary, kinds, numbers, run.again()),
     }
 }
 

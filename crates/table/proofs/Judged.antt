@@ -20,9 +20,9 @@ use Rattle.value.specs.declared.Cell.the-variants.{Null, Int, Str, Binary, Unkn
 use Rattle.value.specs.Handed.{handedNumber}
 use Rattle.column_type.specs.Cells.{integer, referenceNumber}
 use Rattle.column_type.specs.inner.Forms.{integerStored, referenceStored, binaryStored}
+use Rattle.column_type.specs.inner.Signed.{biased}
 use Rattle.column_type.proofs.Cases.{not-integer, not-reference, not-binary}
 use Rattle.column_type.proofs.Cells.{Good}
-use Rattle.column_type.specs.inner.Signed.{biased}
 use Rattle.column_type.proofs.Halves.{lt-or-le, integer-refused, near-mag, biased-lt, sum-fits, sum-is}
 use Rattle.table.specs.inner.Strides.{Judged, Numbered}
 
@@ -59,6 +59,7 @@ else-binary Unknown o j at = absurd (never {n = 16} refl (j .1))
 
 -- ---- a number that was judged
 
+-- an integer is nearer to 0 than half
 pub near : (half : ℕ) (z : ℤ) → Judged (λ at. integer half at z) → natAbs z < half
 near half z j = ⊎-elim (λ l. l) (λ l. absurd (never (sym (integer-refused half (j .0) z l)) (j .1))) (lt-or-le (natAbs z) half)
 
@@ -73,6 +74,7 @@ module _ (half : ℕ) (z : ℤ) (f : SFits w32 z) (m : natAbs z < half) (small :
   pub half-bits : T (nonNeg (pos (biased half z))) × Fits w32 (biased half z)
   half-bits = (tt, record { fits = omega (arith, biased-lt half z (near-mag half z m)) })
 
+-- a reference that was judged is within its limits and stored as it is
 module _ (long : Bool) (z : ℤ) where
   pub referred : Judged (λ at. referenceNumber long at z) → Good z z × Numbered (λ at. referenceNumber long at z) (natAbs z)
   referred j = go (ltZ z (pos 1)) (ltZ (pos 16777215) z) (not long && ltZ (pos 65535) z) refl refl refl

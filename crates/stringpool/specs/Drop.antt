@@ -13,7 +13,7 @@ use Rattle.stringpool.specs.declared.pool.StringPool.{StringPool}
 use Rattle.stringpool.specs.declared.drops.Dropped.{Dropped}
 use Rattle.stringpool.specs.declared.drops.Dropped.the-variants as dropped
 
--- "count down; at 0 the text goes"
+-- "count down; at 0 the text goes"; of a count of 0 there is no drop (10)
 abbrev pub lessened : Entry → Entry
 lessened e = if e .count ≤? 1 then entry [] 0 else entry (e .text) (e .count - 1)
 

@@ -25,7 +25,7 @@ pub data Asked : Type 0 where
   name : List ℕ → Bool → Asked
   -- rows of cells, written to a table of columns with these bits and short references
   written : List ℤ → ℕ → Cells → Asked
-  -- the type of a column with these bits
+  -- the column with these bits
   bits : ℤ → Asked
   -- a pool stream and a data stream, loaded
   loaded : List ℕ → List ℕ → Asked

@@ -1,12 +1,12 @@
 -- The points of specs/Points.antt, by computation.
 use mathlib.Core.Path.{refl}
-use Rattle.column.specs.Points.{FirstTests, Sizes, BadSizes, Survives, WrittenBits, MaximumTooLarge, NullChecked, IntChecked, RangeChecked, TextChecked, BinaryChecked, CheckOrder}
+use Rattle.column.specs.Points.{FirstTests, SizeTests, BadSizes, Survives, WrittenBits, MaximumTooLarge, NullChecked, IntChecked, RangeChecked, TextChecked, BinaryChecked, CheckOrder}
 
 pub first-tests : FirstTests
 first-tests = (refl, refl, refl, refl, refl, refl, refl, refl, refl)
 
-pub sizes : Sizes
-sizes = (refl, refl, refl, refl, refl, refl, refl)
+pub size-tests : SizeTests
+size-tests = (refl, refl, refl, refl, refl, refl, refl)
 
 pub bad-sizes : BadSizes
 bad-sizes = (refl, refl, refl, refl)

@@ -5,12 +5,11 @@ use mathlib.Core.List.{List, []}
 use Prim.Native.Nat.{ℕ}
 use lib.IntN.{ℤ, pos, negsuc}
 use lib.ListN.{length, replicate}
-use Rattle.common.specs.Answers.{Answer, gives, refused, nowhere, column}
+use Rattle.common.specs.Answers.{gives, refused, nowhere, column}
 use Rattle.value.specs.declared.Value.{Value}
 use Rattle.value.specs.declared.Value.the-variants as value
 use Rattle.column_type.specs.declared.form.ColumnType.{ColumnType}
 use Rattle.column_type.specs.declared.form.ColumnType.the-variants.{Int16, Int32, Str, Binary}
-use Rattle.column.specs.declared.column.Column.{Column}
 use Rattle.column.specs.declared.column.ColumnBuilder.{ColumnBuilder}
 use Rattle.column.specs.declared.column.ValueRange.the-variants.{Any}
 use Rattle.column.specs.Columns.{building, withLocalizable, withNullable, withPrimaryKey, withRange, finished, bitsColumn, bitfieldAnswer}
@@ -35,8 +34,8 @@ FirstTests =
     × Reads (pos 0xD00) (Str 0) building × Reads (pos 0xDFF) (Str 255) building × Reads (negsuc 0) (Str 255) (marked true true true)
 
 -- "size 4 is Int32, or Binary if 0x400 is set; 2 or 1 is Int16"; 0x80000002, a negative number, is Int16
-abbrev pub Sizes : Type 0
-Sizes =
+abbrev pub SizeTests : Type 0
+SizeTests =
     Reads (pos 0x104) Int32 building × Reads (pos 0x4) Int32 building
     × Reads (pos 0x404) Binary building × Reads (pos 0x1404) Binary (marked false true false)
     × Reads (pos 0x502) Int16 building × Reads (pos 0x501) Int16 building × Reads (negsuc 2147483645) Int16 building

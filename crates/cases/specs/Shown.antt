@@ -84,27 +84,27 @@ abbrev pub bytesIn : Answer ℕ × List ℕ → Shown
 bytesIn (gives n, out) = bytes (take n out)
 bytesIn (refused n at, out) = refuses n at
 
-abbrev pub typeIn : Answer Column → Shown
-typeIn (gives x) = type (x .coltype)
-typeIn (refused n at) = refuses n at
+abbrev pub typeShown : Answer Column → Shown
+typeShown (gives x) = type (x .coltype)
+typeShown (refused n at) = refuses n at
 
-abbrev pub entriesIn : StringPool → Rooms → Entries
-entriesIn p w = map (λ (k : ℕ). (showAnswer p w (referenceTo k), refcountAnswer p w (referenceTo k))) (from 0 (p .«num_strings»))
+abbrev pub entriesShown : StringPool → Rooms → Entries
+entriesShown p w = map (λ (k : ℕ). (showAnswer p w (referenceTo k), refcountAnswer p w (referenceTo k))) (from 0 (p .«num_strings»))
 
-abbrev pub poolIn : Answer StringPool × Rooms → Shown
-poolIn (gives p, w) = pool (p .codepage) (entriesIn p w)
-poolIn (refused n at, w) = refuses n at
+abbrev pub poolShown : Answer StringPool × Rooms → Shown
+poolShown (gives p, w) = pool (p .codepage) (entriesShown p w)
+poolShown (refused n at, w) = refuses n at
 
-abbrev pub takenIn : Answer (ℤ × StringPool) × Rooms → Shown
-takenIn (gives x, w) = answers (x .0) (entriesIn (x .1) w)
-takenIn (refused n at, w) = refuses n at
+abbrev pub takenShown : Answer (ℤ × StringPool) × Rooms → Shown
+takenShown (gives x, w) = answers (x .0) (entriesShown (x .1) w)
+takenShown (refused n at, w) = refuses n at
 
 abbrev pub shownOf : (asked : Asked) → Outcome asked → Shown
 shownOf (name letters table) x = unitsIn x
 shownOf (written fields rows cells) x = bytesIn x
-shownOf (bits n) x = typeIn x
-shownOf (loaded stream texts) x = poolIn x
-shownOf (taken stream texts text) x = takenIn x
+shownOf (bits n) x = typeShown x
+shownOf (loaded stream texts) x = poolShown x
+shownOf (taken stream texts text) x = takenShown x
 
 abbrev pub answered : Asked → Shown
 answered asked = shownOf asked (called asked)

@@ -14,7 +14,7 @@ use Rattle.column_type.specs.declared.form.ColumnType.the-variants.{Int16, Int3
 use Rattle.column_type.proofs.form.ColumnType as type
 use Rattle.column_type.specs.Forms.{soundType}
 use Rattle.column.specs.inner.Bits.{tooLong, MaximumFits}
-use Rattle.column.specs.Check.{textFits}
+use Rattle.column.specs.Check.{textSuits}
 
 -- ---- 19
 
@@ -34,7 +34,7 @@ long-type c Binary e = absurd (let z : _≡_ {A = ℕ} 0 1 = cc in omega arith)
 none3 : {n a b c : ℕ} → (n ≡ a → ⊥) → (n ≡ b → ⊥) → (n ≡ c → ⊥) → OneOf (a ∷ b ∷ c ∷ []) n → ⊥
 none3 x y z o = ⊎-elim x (⊎-elim y z) o
 
-pub no-maximum : (t : ColumnType) → OneOf (0 ∷ 1 ∷ 3 ∷ []) (tagOf type.the-type t) → (false ≡ tooLong t) × ((bytes : ℕ) → false ≡ textFits t bytes)
+pub no-maximum : (t : ColumnType) → OneOf (0 ∷ 1 ∷ 3 ∷ []) (tagOf type.the-type t) → (false ≡ tooLong t) × ((bytes : ℕ) → false ≡ textSuits t bytes)
 no-maximum Int16 o = (refl, λ b. refl)
 no-maximum Int32 o = (refl, λ b. refl)
 no-maximum (Str max) o = absurd (none3 (λ e. omega arith) (λ e. omega arith) (λ e. omega arith) o)

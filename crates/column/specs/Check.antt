@@ -31,28 +31,28 @@ inside Any n = true
 inside (Within min max) n = not (n <ℤ? min || max <ℤ? n)
 
 -- above the one, at most the other
-abbrev pub between : ℤ → ℤ → ℤ → Bool
-between low high n = low <ℤ? n && not (high <ℤ? n)
+abbrev pub aboveUpTo : ℤ → ℤ → ℤ → Bool
+aboveUpTo low high n = low <ℤ? n && not (high <ℤ? n)
 
 -- "above the smallest integer and at most the largest of its width": -32,768 and 32,767, -2,147,483,648 and 2,147,483,647
 abbrev pub integerFits : ColumnType → ℤ → Bool
-integerFits Int16 n = between (negsuc 32767) (pos 32767) n
-integerFits Int32 n = between (negsuc 2147483647) (pos 2147483647) n
+integerFits Int16 n = aboveUpTo (negsuc 32767) (pos 32767) n
+integerFits Int32 n = aboveUpTo (negsuc 2147483647) (pos 2147483647) n
 integerFits (Str max) n = false
 integerFits Binary n = false
 
 -- "text, on Str with maximum 0 or at most that many bytes"
-abbrev pub textFits : ColumnType → ℕ → Bool
-textFits Int16 bytes = false
-textFits Int32 bytes = false
-textFits (Str max) bytes = max =? 0 || bytes ≤? max
-textFits Binary bytes = false
+abbrev pub textSuits : ColumnType → ℕ → Bool
+textSuits Int16 bytes = false
+textSuits Int32 bytes = false
+textSuits (Str max) bytes = max =? 0 || bytes ≤? max
+textSuits Binary bytes = false
 
 -- "Null, if nullable" (document 02, E6: in a Binary column too); "Int, [as above]; text, [as above]; Binary, on Binary"
 abbrev pub suits : Column → Value → ℕ → Bool
 suits x value.Null bytes = x .«is_nullable»
 suits x (value.Int n) bytes = inside (x .«value_range») n && integerFits (x .coltype) n
-suits x value.Str bytes = textFits (x .coltype) bytes
+suits x value.Str bytes = textSuits (x .coltype) bytes
 suits x value.Binary bytes = isBinary (x .coltype)
 
 -- `is_valid_value`: 22 for the text, then 19, else whether the value suits

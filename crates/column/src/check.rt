@@ -5,7 +5,7 @@ use column_type::ColumnType;
 use common::Refusal;
 use value::Value;
 ghost use mathlib.Core.Path.{_≡_};
-ghost use Rattle.column.specs.Check.{isBinary, inside, between, integerFits, textFits, suits, checkAnswer, validityAs};
+ghost use Rattle.column.specs.Check.{isBinary, inside, aboveUpTo, integerFits, textSuits, suits, checkAnswer, validityAs};
 
 pub enum Validity {
     Valid,
@@ -88,7 +88,7 @@ fn int_fits(coltype: ColumnType, n: i32) -> bool
 }
 
 fn text_fits(coltype: ColumnType, bytes: usize) -> bool
-    ensures { λ r. ⌜ r ≡ textFits coltype bytes ⌝ }
+    ensures { λ r. ⌜ r ≡ textSuits coltype bytes ⌝ }
 {
     let ColumnType::Str(max) = coltype else {
         return false;
@@ -100,7 +100,7 @@ fn text_fits(coltype: ColumnType, bytes: usize) -> bool
 }
 
 fn within(n: i32, low: i32, high: i32) -> bool
-    ensures { λ r. ⌜ r ≡ between low high n ⌝ }
+    ensures { λ r. ⌜ r ≡ aboveUpTo low high n ⌝ }
 {
     if low < n {
         if high < n {

@@ -57,5 +57,5 @@ unfoldable pub valueOf : ℕ → List ℕ → ℕ
 valueOf sum [] = sum
 valueOf sum (b ∷ s) = if isDigit b then (if 999999999 <? sum then 0 else valueOf (sum * 10 + digitOf b) s) else sum
 
-abbrev pub numberAt : List ℕ → ℕ → ℕ
-numberAt s from = valueOf 0 (drop from s)
+abbrev pub digitsAt : List ℕ → ℕ → ℕ
+digitsAt s from = valueOf 0 (drop from s)

@@ -3,7 +3,7 @@
 ghost use mathlib.Core.Path.{_≡_};
 ghost use lib.ListN.{take};
 ghost use Prim.Native.Nat.{_+_, _*_, _≤_, _<_};
-ghost use Rattle.commands.specs.Words.{byteAt, endsAt, endOf, afterEnd, digitOf, pairAt, pairsIn, bytesOutcome, lesser, isDigit, numberAt};
+ghost use Rattle.commands.specs.Words.{byteAt, endsAt, endOf, afterEnd, digitOf, pairAt, pairsIn, bytesOutcome, lesser, isDigit, digitsAt};
 
 pub fn byte(s: &[u8], i: usize) -> u8
     ensures { λ r. ⌜ r ≡ byteAt (now (s .entry)) i ⌝ }
@@ -125,7 +125,7 @@ fn is_digit(b: u8) -> bool
 
 // The decimal number at `from`; 0 where it has more than ten digits' worth.
 pub fn number_at(s: &[u8], from: usize) -> u64
-    ensures { λ r. ⌜ r ≡ numberAt (now (s .entry)) from ⌝ }
+    ensures { λ r. ⌜ r ≡ digitsAt (now (s .entry)) from ⌝ }
 {
     let mut sum = 0;
     let mut i = from;

@@ -10,7 +10,7 @@ use lib.ListN.{length, getD, take, drop}
 use lib.Seq.{drop-cons, getD-append-add, length-take-le}
 use Rattle.common.specs.Lists.{_over_, overAt}
 use Rattle.common.specs.Answers.{gives, refused, nowhere}
-use Rattle.little_endian.specs.Numbers.{bytesOf, numberAt, writeOutcome}
+use Rattle.little_endian.specs.Numbers.{bytesOf, numberAt, putOutcome}
 use Rattle.little_endian.specs.Promises.{AreBytes}
 
 pub length-bytes : (width n : ℕ) → length (bytesOf width n) ≡ width
@@ -72,8 +72,8 @@ write-back (suc width) s at b h =
 
 -- `write` refused, and done
 module _ (n width : ℕ) (out : List ℕ) (at : ℕ) where
-  pub no-room : length out < at + width → (refused 7 nowhere, out) ≡ writeOutcome n width out at
+  pub no-room : length out < at + width → (refused 7 nowhere, out) ≡ putOutcome n width out at
   no-room h = rw (lt-ltb (length out) (at + width) h)
 
-  pub written : (last : List ℕ) → at + width ≤ length out → last ≡ overAt at (bytesOf width n) out → (gives width, last) ≡ writeOutcome n width out at
+  pub written : (last : List ℕ) → at + width ≤ length out → last ≡ overAt at (bytesOf width n) out → (gives width, last) ≡ putOutcome n width out at
   written last h e = rw (le-ltb (length out) (at + width) h, e)

@@ -5,19 +5,19 @@ use native.Mathlib.Omega.{arith}
 use lib.ListN.{length, take, drop, take-append-drop, length-drop}
 use lib.Seq.{length-take-le}
 use Rattle.little_endian.specs.Numbers.{bytesOf, readAnswer}
-use Rattle.little_endian.specs.Promises.{WriteThenRead, ReadThenWrite}
+use Rattle.little_endian.specs.Promises.{NumberReadsBack, NumberWritesBack}
 use Rattle.little_endian.proofs.Laws.{read-back-at, write-back, written}
 
 -- at most four bytes are all of them
 at-most-four : (width : ℕ) → width ≤ 4 → min width 4 ≡ width
 at-most-four width h = omega arith
 
-pub write-then-read : WriteThenRead
+pub write-then-read : NumberReadsBack
 write-then-read width n at out w h room =
     let e = sym (written n width out at _ room refl) in
     (ap (λ (x : _). x .0) e, rw (at-most-four width w, ap (λ (x : _). x .1) e) (read-back-at width n at out h (omega arith)))
 
-pub read-then-write : ReadThenWrite
+pub read-then-write : NumberWritesBack
 read-then-write width at s w b room =
     let same : bytesOf width (readAnswer s at width) ≡ take width (drop at s) = rw (at-most-four width w) (write-back width s at b room) in
     let n : length (take width (drop at s)) ≡ width = length-take-le width (drop at s) (rw length-drop (omega arith)) in

@@ -24,12 +24,12 @@ abbrev pub readAnswer : List ℕ → ℕ → ℕ → ℕ
 readAnswer s at width = numberAt (min width 4) s at
 
 -- `write`: 7 where the bytes have no room
-abbrev pub writeAnswer : ℕ → ℕ → List ℕ → ℕ → Answer (ℕ × List ℕ)
-writeAnswer n width out at = if length out <? at + width then refused 7 nowhere else gives (width, overAt at (bytesOf width n) out)
+abbrev pub putAnswer : ℕ → ℕ → List ℕ → ℕ → Answer (ℕ × List ℕ)
+putAnswer n width out at = if length out <? at + width then refused 7 nowhere else gives (width, overAt at (bytesOf width n) out)
 
-abbrev pub writeOutcome : ℕ → ℕ → List ℕ → ℕ → Answer ℕ × List ℕ
-writeOutcome n width out at = outcome out (writeAnswer n width out at)
+abbrev pub putOutcome : ℕ → ℕ → List ℕ → ℕ → Answer ℕ × List ℕ
+putOutcome n width out at = outcome out (putAnswer n width out at)
 
-abbrev pub writtenAs : Written → Answer ℕ
-writtenAs (Bytes n) = gives n
-writtenAs (Refused x) = refusedBy x
+abbrev pub putAs : Written → Answer ℕ
+putAs (Bytes n) = gives n
+putAs (Refused x) = refusedBy x

@@ -2,7 +2,7 @@
 use mathlib.Core.Path.{_≡_}
 use mathlib.Core.List.{[], _∷_}
 use Rattle.common.specs.Answers.{gives, refused, nowhere}
-use Rattle.little_endian.specs.Numbers.{bytesOf, readAnswer, writeOutcome}
+use Rattle.little_endian.specs.Numbers.{bytesOf, readAnswer, putOutcome}
 
 -- "All numbers are little-endian."
 abbrev pub LowestFirst : Type 0
@@ -15,5 +15,5 @@ FourAtMost = (readAnswer (1 ∷ 2 ∷ []) 1 4 ≡ 2) × (readAnswer (1 ∷ 2 ∷
 
 -- "7 output too small for the whole result": two bytes at 1 of three, and at 2
 abbrev pub OutputRoom : Type 0
-OutputRoom = (writeOutcome 0x0102 2 (7 ∷ 7 ∷ 7 ∷ []) 1 ≡ (gives 2, 7 ∷ 2 ∷ 1 ∷ [])) × (writeOutcome 0x0102 2 (7 ∷ 7 ∷ 7 ∷ []) 2 ≡ (refused 7 nowhere, 7 ∷ 7 ∷ 7 ∷ []))
-    × (writeOutcome 0x0102 2 (7 ∷ []) 2 ≡ (refused 7 nowhere, 7 ∷ []))
+OutputRoom = (putOutcome 0x0102 2 (7 ∷ 7 ∷ 7 ∷ []) 1 ≡ (gives 2, 7 ∷ 2 ∷ 1 ∷ [])) × (putOutcome 0x0102 2 (7 ∷ 7 ∷ 7 ∷ []) 2 ≡ (refused 7 nowhere, 7 ∷ 7 ∷ 7 ∷ []))
+    × (putOutcome 0x0102 2 (7 ∷ []) 2 ≡ (refused 7 nowhere, 7 ∷ []))

@@ -11,7 +11,7 @@ use Rattle.common.specs.declared.refusal.Refusal.{Refusal}
 use Rattle.common.proofs.Outcomes.{refused-gives}
 use Rattle.stringpool.specs.Show.{orEmpty}
 use Rattle.stringpool.specs.Write.{writeAnswer}
-use Rattle.msi_forms.specs.Answers.{refusalIn, countIn, handed}
+use Rattle.msi_forms.specs.Answers.{refusalIn, countIn, answeredAs}
 use Rattle.msi_forms.specs.declared.answers.Count.{Count}
 
 -- a refusal, whatever was to be given
@@ -44,7 +44,7 @@ given-said (refused n at) x y e = absurd (refused-gives (sym e))
 
 -- what writing a text to an output hands out
 abbrev pub written : List ℕ → Answer (ℕ × List ℕ) → Count × List ℕ
-written out a = handed countIn (outcome out a)
+written out a = answeredAs countIn (outcome out a)
 
 pub copied-short : (t out : List ℕ) {r : Count} → length out < length t → r ≡ countIn (refused 7 nowhere) → (r, out) ≡ written out (writeAnswer t out)
 copied-short t out short made = simp (lt-ltb _ _ short, made)

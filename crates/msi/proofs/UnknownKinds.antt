@@ -16,11 +16,11 @@ use Rattle.common.proofs.Outcomes.{refused-gives}
 use Rattle.stringpool.specs.Pool.{Rooms, sound}
 use Rattle.stringpool.specs.Write.{writeAnswer}
 use Rattle.stringpool.specs.declared.pool.StringPool.{StringPool}
-use Rattle.value.specs.Kinds.{kindOf, numberOf, valueKind, valueNumber}
+use Rattle.value.specs.Kinds.{refKind, refNumber, valueKind, valueNumber}
 use Rattle.value.specs.declared.ValueRef.the-variants as values
 use Rattle.value.specs.declared.Value.the-variants as plain
 use Rattle.pool_values.specs.Pooled.{createAnswer, removeAnswer}
-use Rattle.msi_forms.specs.Answers.{countIn, handed}
+use Rattle.msi_forms.specs.Answers.{countIn, answeredAs}
 use Rattle.value.specs.Handed.{unknown}
 use Rattle.msi_forms.specs.Unknown.{onKind}
 use Rattle.msi_forms.specs.Values.{valueIn, plainIn}
@@ -43,8 +43,8 @@ refused-kept {A} {W} kind w (refused n at) kept = go (unknown kind)
     go false = refl
 
 pub hands-kind : {A C W : Type 0} (f : Answer A → C) (kind : ℕ) (was : W) (a : Answer (A × W)) {r : C} {x : Answer A} {w : W} → (unknown kind ≡ true → outcome was a .1 ≡ was)
-    → r ≡ f (onKind nowhere kind x) → (x, w) ≡ outcome was a → (r, w) ≡ handed f (outcome was (onKind nowhere kind a))
-hands-kind {A} f kind was a kept made called = hands (λ (y : Answer A). f (onKind nowhere kind y)) made called ∙ ap (handed f) (refused-kept kind was a kept)
+    → r ≡ f (onKind nowhere kind x) → (x, w) ≡ outcome was a → (r, w) ≡ answeredAs f (outcome was (onKind nowhere kind a))
+hands-kind {A} f kind was a kept made called = hands (λ (y : Answer A). f (onKind nowhere kind y)) made called ∙ ap (answeredAs f) (refused-kept kind was a kept)
 
 -- an unknown kind is judged as Binary is, which leaves the rooms
 above : (kind k : ℕ) → unknown kind ≡ true → k < 4 → kind ≡ k → ⊥
@@ -67,7 +67,7 @@ pub create-kept : (kind : ℕ) (n : ℤ) (new : List ℕ) (p : StringPool) (w : 
 create-kept kind n new p w e = rw (plain-unknown kind n e) (leaves w _ (maxBytes <? length new) (maxBytes <? length (w .text)) (not (sound p w)))
 
 pub remove-kept : (kind : ℕ) (n : ℤ) (p : StringPool) (w : Rooms) → unknown kind ≡ true
-    → outcome w (removeAnswer (kindOf (valueIn kind n)) (numberOf (valueIn kind n)) p w) .1 ≡ w
+    → outcome w (removeAnswer (refKind (valueIn kind n)) (refNumber (valueIn kind n)) p w) .1 ≡ w
 remove-kept kind n p w e = rw (value-unknown kind n e) (leaves w _ false (maxBytes <? length (w .text)) (not (sound p w)))
 
 -- a text that is shown

@@ -1,4 +1,4 @@
-// The string pool. Its state is handed in and, where a call changes it, handed out; its rooms are lent to each call.
+// The string pool. Its state is answeredAs in and, where a call changes it, answeredAs out; its rooms are lent to each call.
 use common::Refusal;
 use msi_forms::answers::Count;
 use msi_forms::answers::Pool;
@@ -30,7 +30,7 @@ ghost use Rattle.stringpool.specs.Show.{showAnswer, refcountAnswer};
 ghost use Rattle.stringpool.specs.Take.{takeOutcome, firstFreeOrEqual};
 ghost use Rattle.stringpool.specs.Drop.{dropOutcome};
 ghost use Rattle.stringpool.specs.Write.{writeOutcome, writeAnswer, poolBytes, dataBytes};
-ghost use Rattle.msi_forms.specs.Answers.{refusalIn, countIn, handed};
+ghost use Rattle.msi_forms.specs.Answers.{refusalIn, countIn, answeredAs};
 ghost use Rattle.msi_forms.specs.Pools.{stateIn, poolIn, takenIn, referenceIn};
 ghost use Rattle.msi.specs.Texts.{copiedOutcome};
 
@@ -57,7 +57,7 @@ pub extern "C" fn strandroost_load(
     text: &mut [u8],
 ) -> PoolAnswer
     ensures { λ r. ⌜ (r, rooms (now (lengths .exit)) (now (counts .exit)) (now (text .exit)))
-        ≡ handed poolIn (loadOutcome (now (pool .entry)) (now («data» .entry)) (rooms (now (lengths .entry)) (now (counts .entry)) (now (text .entry)))) ⌝ }
+        ≡ answeredAs poolIn (loadOutcome (now (pool .entry)) (now («data» .entry)) (rooms (now (lengths .entry)) (now (counts .entry)) (now (text .entry)))) ⌝ }
 {
     from_loaded(StringPool::load(pool, data, lengths, counts, text))
 }
@@ -107,7 +107,7 @@ pub extern "C" fn strandroost_get_refusal(
 
 // A part of the text room, copied to the output whole or not at all.
 pub(crate) fn copied(part: &[u8], out: &mut [u8]) -> Count
-    ensures { λ r. ⌜ (r, now (out .exit)) ≡ handed countIn (outcome (now (out .entry)) (writeAnswer (now (part .entry)) (now (out .entry)))) ⌝ }
+    ensures { λ r. ⌜ (r, now (out .exit)) ≡ answeredAs countIn (outcome (now (out .entry)) (writeAnswer (now (part .entry)) (now (out .entry)))) ⌝ }
 {
     if out.len() < part.len() {
         return refused_count(Refusal::OutputRoom);
@@ -129,7 +129,7 @@ pub extern "C" fn strandroost_get(
     number: i32,
     out: &mut [u8],
 ) -> Count
-    ensures { λ r. ⌜ (r, now (out .exit)) ≡ handed countIn (copiedOutcome (showAnswer (stateIn pool) (rooms (now (lengths .entry)) (now (counts .entry)) (now (text .entry))) number) (now (out .entry))) ⌝ }
+    ensures { λ r. ⌜ (r, now (out .exit)) ≡ answeredAs countIn (copiedOutcome (showAnswer (stateIn pool) (rooms (now (lengths .entry)) (now (counts .entry)) (now (text .entry))) number) (now (out .entry))) ⌝ }
 {
     let was = state(pool);
     let shown = was.get_refusal(lengths, counts, text, number);
@@ -148,7 +148,7 @@ pub extern "C" fn strandroost_incref(
     new: &[u8],
 ) -> TakeAnswer
     ensures { λ r. ⌜ (r, rooms (now (lengths .exit)) (now (counts .exit)) (now (text .exit)))
-        ≡ handed takenIn (takeOutcome firstFreeOrEqual (stateIn pool) (rooms (now (lengths .entry)) (now (counts .entry)) (now (text .entry))) (now (new .entry))) ⌝ }
+        ≡ answeredAs takenIn (takeOutcome firstFreeOrEqual (stateIn pool) (rooms (now (lengths .entry)) (now (counts .entry)) (now (text .entry))) (now (new .entry))) ⌝ }
 {
     let was = state(pool);
     from_taken(was.incref(lengths, counts, text, new))
@@ -163,7 +163,7 @@ pub extern "C" fn strandroost_decref(
     number: i32,
 ) -> PoolAnswer
     ensures { λ r. ⌜ (r, rooms (now (lengths .exit)) (now (counts .exit)) (now (text .exit)))
-        ≡ handed poolIn (dropOutcome (stateIn pool) (rooms (now (lengths .entry)) (now (counts .entry)) (now (text .entry))) number) ⌝ }
+        ≡ answeredAs poolIn (dropOutcome (stateIn pool) (rooms (now (lengths .entry)) (now (counts .entry)) (now (text .entry))) number) ⌝ }
 {
     let was = state(pool);
     from_dropped(was.decref(lengths, counts, text, number))
@@ -178,7 +178,7 @@ pub extern "C" fn strandroost_write_pool(
     out: &mut [u8],
 ) -> Count
     ensures { λ r. ⌜ (r, now (out .exit))
-        ≡ handed countIn (writeOutcome (stateIn pool) (rooms (now (lengths .entry)) (now (counts .entry)) (now (text .entry)))
+        ≡ answeredAs countIn (writeOutcome (stateIn pool) (rooms (now (lengths .entry)) (now (counts .entry)) (now (text .entry)))
         (poolBytes (stateIn pool) (rooms (now (lengths .entry)) (now (counts .entry)) (now (text .entry)))) (now (out .entry))) ⌝ }
 {
     let was = state(pool);
@@ -194,7 +194,7 @@ pub extern "C" fn strandroost_write_data(
     out: &mut [u8],
 ) -> Count
     ensures { λ r. ⌜ (r, now (out .exit))
-        ≡ handed countIn (writeOutcome (stateIn pool) (rooms (now (lengths .entry)) (now (counts .entry)) (now (text .entry)))
+        ≡ answeredAs countIn (writeOutcome (stateIn pool) (rooms (now (lengths .entry)) (now (counts .entry)) (now (text .entry)))
         (dataBytes (stateIn pool) (rooms (now (lengths .entry)) (now (counts .entry)) (now (text .entry)))) (now (out .entry))) ⌝ }
 {
     let was = state(pool);

@@ -1,4 +1,4 @@
-// Tables: a layout by its columns or their bitfields, and the calls on it. A layout handed over need not be one that was made: each
+// Tables: a layout by its columns or their bitfields, and the calls on it. A layout answeredAs over need not be one that was made: each
 // call judges it.
 use msi_forms::answers::CellAnswer;
 use msi_forms::answers::Count;
@@ -17,10 +17,10 @@ ghost use Rattle.table.specs.Layout.{bitfieldsOutcome, columnsOutcome};
 ghost use Rattle.table.specs.Reading.{numRowsAnswer, readCellAnswer, readRowsOutcome};
 ghost use Rattle.table.specs.Writing.{writeRowsOutcome};
 ghost use Rattle.rows.specs.Next.{nextOutcome};
-ghost use Rattle.msi_forms.specs.Answers.{countIn, handed};
+ghost use Rattle.msi_forms.specs.Answers.{countIn, answeredAs};
 ghost use Rattle.msi_forms.specs.Tables.{tableIn, onTable, laidIn, newIn, cellIn, stepIn};
 
-// The layout of the columns handed over, judged.
+// The layout of the columns answeredAs over, judged.
 #[no_mangle]
 pub extern "C" fn strandroost_table_new(table: TableParts) -> TableAnswer
     ensures { λ r. ⌜ r ≡ newIn table (columnsOutcome (tableIn table .columns) (tableIn table .count) (tableIn table .«long_string_refs»)) ⌝ }
@@ -70,7 +70,7 @@ pub extern "C" fn strandroost_read_rows(
     numbers: &mut [i32],
 ) -> Count
     ensures { λ r. ⌜ (r, (now (kinds .exit), now (numbers .exit)))
-        ≡ handed (λ a. countIn (onTable table a)) (readRowsOutcome (tableIn table) (now (stream .entry)) (now (kinds .entry)) (now (numbers .entry))) ⌝ }
+        ≡ answeredAs (λ a. countIn (onTable table a)) (readRowsOutcome (tableIn table) (now (stream .entry)) (now (kinds .entry)) (now (numbers .entry))) ⌝ }
 {
     let made = table_in(table);
     from_rows(made.read_rows(stream, kinds, numbers), table)
@@ -85,7 +85,7 @@ pub extern "C" fn strandroost_write_rows(
     out: &mut [u8],
 ) -> Count
     ensures { λ r. ⌜ (r, now (out .exit))
-        ≡ handed (λ a. countIn (onTable table a)) (writeRowsOutcome (tableIn table) rows (record { kinds = now (kinds .entry); numbers = now (numbers .entry) }) (now (out .entry))) ⌝ }
+        ≡ answeredAs (λ a. countIn (onTable table a)) (writeRowsOutcome (tableIn table) rows (record { kinds = now (kinds .entry); numbers = now (numbers .entry) }) (now (out .entry))) ⌝ }
 {
     let made = table_in(table);
     from_rows(made.write_rows(rows, kinds, numbers, out), table)
@@ -94,7 +94,7 @@ pub extern "C" fn strandroost_write_rows(
 // A step of the row reader from the place `at`: state in, state out.
 #[no_mangle]
 pub extern "C" fn strandroost_rows_next(table: TableParts, stream: &[u8], at: usize) -> StepAnswer
-    ensures { λ r. ⌜ r ≡ stepIn (handed (onTable table) (nextOutcome (tableIn table) (now (stream .entry)) at)) ⌝ }
+    ensures { λ r. ⌜ r ≡ stepIn (answeredAs (onTable table) (nextOutcome (tableIn table) (now (stream .entry)) at)) ⌝ }
 {
     let made = table_in(table);
     from_step(rows::next_at(stream, at, made), table)

@@ -18,7 +18,7 @@ use pool_values::Shown;
 ghost use mathlib.Core.Path.{_≡_};
 ghost use Rattle.common.specs.Answers.{outcome};
 ghost use Rattle.stringpool.specs.Pool.{rooms};
-ghost use Rattle.msi_forms.specs.Answers.{countIn, handed};
+ghost use Rattle.msi_forms.specs.Answers.{countIn, answeredAs};
 ghost use Rattle.msi_forms.specs.Pools.{stateIn, poolIn};
 ghost use Rattle.msi_forms.specs.Tables.{cellIn};
 ghost use Rattle.msi_forms.specs.Values.{createBy, removeBy, shownBy, textBy, createdIn};
@@ -36,7 +36,7 @@ pub extern "C" fn strandroost_create(
     text: &mut [u8],
 ) -> CreateAnswer
     ensures { λ r. ⌜ (r, rooms (now (lengths .exit)) (now (counts .exit)) (now (text .exit)))
-        ≡ handed createdIn (outcome (rooms (now (lengths .entry)) (now (counts .entry)) (now (text .entry)))
+        ≡ answeredAs createdIn (outcome (rooms (now (lengths .entry)) (now (counts .entry)) (now (text .entry)))
         (createBy kind number (now (new .entry)) (stateIn pool) (rooms (now (lengths .entry)) (now (counts .entry)) (now (text .entry))))) ⌝ }
 {
     let was = state(pool);
@@ -56,7 +56,7 @@ pub extern "C" fn strandroost_remove(
     text: &mut [u8],
 ) -> PoolAnswer
     ensures { λ r. ⌜ (r, rooms (now (lengths .exit)) (now (counts .exit)) (now (text .exit)))
-        ≡ handed poolIn (outcome (rooms (now (lengths .entry)) (now (counts .entry)) (now (text .entry)))
+        ≡ answeredAs poolIn (outcome (rooms (now (lengths .entry)) (now (counts .entry)) (now (text .entry)))
         (removeBy kind number (stateIn pool) (rooms (now (lengths .entry)) (now (counts .entry)) (now (text .entry))))) ⌝ }
 {
     let was = state(pool);
@@ -95,7 +95,7 @@ pub extern "C" fn strandroost_to_text(
     out: &mut [u8],
 ) -> Count
     ensures { λ r. ⌜ (r, now (out .exit))
-        ≡ handed countIn (copiedOutcome (textBy kind number (stateIn pool) (rooms (now (lengths .entry)) (now (counts .entry)) (now (text .entry)))) (now (out .entry))) ⌝ }
+        ≡ answeredAs countIn (copiedOutcome (textBy kind number (stateIn pool) (rooms (now (lengths .entry)) (now (counts .entry)) (now (text .entry)))) (now (out .entry))) ⌝ }
 {
     let was = state(pool);
     let value = value_in(kind, number);

@@ -3,13 +3,13 @@ use mathlib.Core.Path.{_≡_}
 use Prim.Native.Nat.{ℕ}
 use lib.IntN.{ℤ}
 use Rattle.common.specs.Answers.{gives}
-use Rattle.value.specs.Kinds.{kindOf, numberOf, cellAs}
+use Rattle.value.specs.Kinds.{refKind, refNumber, cellAs}
 use Rattle.value.specs.declared.ValueRef.{ValueRef}
 use Rattle.msi_forms.specs.Answers.{noRefusal}
 use Rattle.msi_forms.specs.Tables.{cellIn}
 use Rattle.msi_forms.specs.declared.answers.Refused.{Refused}
 use Rattle.msi_forms.specs.declared.answers.CellAnswer.{CellAnswer}
 
-pub cell-made : (v : ValueRef) {x : Refused} {k : ℕ} {z : ℤ} → x ≡ noRefusal → k ≡ kindOf v → z ≡ numberOf v
+pub cell-made : (v : ValueRef) {x : Refused} {k : ℕ} {z : ℤ} → x ≡ noRefusal → k ≡ refKind v → z ≡ refNumber v
     → _≡_ {A = CellAnswer} (record { refused = x; kind = k; number = z }) (cellIn (gives (cellAs v)))
 cell-made v none kind number = simp (none, kind, number)

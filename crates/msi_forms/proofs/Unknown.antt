@@ -9,13 +9,13 @@ use Rattle.common.specs.Choice.{if_then_else_}
 use Rattle.common.specs.Answers.{Place, nowhere, column, cell, Answer, refused}
 use Rattle.msi_forms.specs.Answers.{refusalAt}
 use Rattle.value.specs.Handed.{unknown}
-use Rattle.msi_forms.specs.Unknown.{onKind, numberAt}
+use Rattle.msi_forms.specs.Unknown.{onKind, refusalNumber}
 use Rattle.msi_forms.specs.declared.answers.Refused.{Refused}
 use Rattle.msi_forms.specs.declared.answers.ColumnParts.{ColumnParts}
 
 -- the refusal n at a place, with its number by the types
 abbrev pub typed : (ℕ → ℕ) → ℕ → Place → Refused
-typed types n at = refusalAt (numberAt types n at) at
+typed types n at = refusalAt (refusalNumber types n at) at
 
 pub at-nowhere : (types : ℕ → ℕ) (n : ℕ) {at : Place} → nowhere ≡ at → refusalAt n at ≡ typed types n at
 at-nowhere types n e = rw (← e)

@@ -14,7 +14,7 @@ use Rattle.common.proofs.Outcomes.{refused-gives}
 use Rattle.column.specs.Columns.{building}
 use Rattle.column_type.specs.declared.form.ColumnType.the-variants as types
 use Rattle.table.specs.Layout.{columnsOf, eachAt, soundColumn}
-use Rattle.msi_forms.specs.Columns.{typeIn, columnFrom, builderOut}
+use Rattle.msi_forms.specs.Columns.{coltypeIn, columnFrom, builderOut}
 use Rattle.msi_forms.specs.Promises.{UnknownType}
 use Rattle.msi_forms.specs.Tables.{tableIn}
 use Rattle.value.specs.Handed.{unknown}
@@ -42,7 +42,7 @@ module _ {A B : Type 0} (f : ℕ → A → Answer B) (none : A) (n : ℕ) (at : 
       let on : suc k + c ≡ k + suc c = omega arith in
       passed (f k x) (eachAt f (suc k) (take c xs)) (eachAt f (suc k) xs) before (λ zs b. stops xs (suc k) c (le-of-suc-le-suc h) b (ap (λ (i : ℕ). f i (getD xs c none)) on ∙ e))
 
-unknown-type : (p : ColumnParts) → unknown (p .coltype) ≡ true → typeIn p ≡ types.Str (maxString + 1)
+unknown-type : (p : ColumnParts) → unknown (p .coltype) ≡ true → coltypeIn p ≡ types.Str (maxString + 1)
 unknown-type p e = rw e
 
 unknown-column : (c : ℕ) (p : ColumnParts) → unknown (p .coltype) ≡ true → soundColumn c (columnFrom p) ≡ refused 19 (column c)

@@ -35,5 +35,5 @@ abbrev pub flagIn : Answer Bool → Flag
 flagIn a = record { refused = refusalIn a; value = givenOr false a }
 
 -- an outcome with its answer as C has it; the rooms beside it stay as the call left them
-abbrev pub handed : {A C W : Type 0} → (A → C) → A × W → C × W
-handed f x = (f (x .0), x .1)
+abbrev pub answeredAs : {A C W : Type 0} → (A → C) → A × W → C × W
+answeredAs f x = (f (x .0), x .1)

@@ -21,8 +21,8 @@ use Rattle.msi_forms.specs.declared.columns.RangeParts.{RangeParts}
 
 -- An unknown type is taken to a Str beyond its maximum: every call refuses that as a bad column, in 01's order, with 19. So `onColumn`
 -- has only the number to say anew.
-abbrev pub typeIn : ColumnParts → ColumnType
-typeIn p =
+abbrev pub coltypeIn : ColumnParts → ColumnType
+coltypeIn p =
     if unknown (p .coltype) then types.Str (maxString + 1)
     else if p .coltype =? 0 then types.Int16
     else if p .coltype =? 1 then types.Int32
@@ -36,7 +36,7 @@ abbrev pub builderIn : ColumnParts → ColumnBuilder
 builderIn p = record { «is_localizable» = p .«is_localizable»; «is_nullable» = p .«is_nullable»; «is_primary_key» = p .«is_primary_key»; «value_range» = rangeIn p }
 
 abbrev pub columnFrom : ColumnParts → Column
-columnFrom p = finished (builderIn p) (typeIn p)
+columnFrom p = finished (builderIn p) (coltypeIn p)
 
 -- what a call on this column answers: 16 where its type is unknown, as 19 for a Str beyond its maximum
 abbrev pub onColumn : {A : Type 0} → ColumnParts → Answer A → Answer A

@@ -6,12 +6,12 @@ use lib.ListN.{length, take}
 use Rattle.common.specs.Sizes.{maxColumns}
 use Rattle.common.specs.Answers.{gives, refused, column}
 use Rattle.table.specs.Layout.{columnsOf, eachAt, soundColumn, soundColumns}
-use Rattle.msi_forms.specs.Tables.{tableIn, typeAt, onTable}
+use Rattle.msi_forms.specs.Tables.{tableIn, typeHanded, onTable}
 use Rattle.value.specs.Handed.{unknown}
 use Rattle.msi_forms.specs.declared.answers.TableParts.{TableParts}
 
 -- the first bad column is the one at c, which is in use, and its type is unknown: 16 at c
 abbrev pub UnknownType : Type 0
 UnknownType = (t : TableParts) (c : ℕ) → length (t .columns) ≡ maxColumns → t .count ≤ maxColumns → c < t .count
-    → eachAt soundColumn 0 (take c (columnsOf (tableIn t))) ≡ gives (take c (columnsOf (tableIn t))) → unknown (typeAt t c) ≡ true
+    → eachAt soundColumn 0 (take c (columnsOf (tableIn t))) ≡ gives (take c (columnsOf (tableIn t))) → unknown (typeHanded t c) ≡ true
     → onTable t (soundColumns maxColumns (tableIn t)) ≡ refused 16 (column c)

@@ -24,12 +24,12 @@ abbrev pub tableOut : Table → TableParts
 tableOut t = record { columns = map partsOf (t .columns); count = t .count; «long_string_refs» = t .«long_string_refs» }
 
 -- the type that column c was handed over with
-abbrev pub typeAt : TableParts → ℕ → ℕ
-typeAt t c = getD (map (λ (p : ColumnParts). p .coltype) (t .columns)) c 0
+abbrev pub typeHanded : TableParts → ℕ → ℕ
+typeHanded t c = getD (map (λ (p : ColumnParts). p .coltype) (t .columns)) c 0
 
 -- what a call on this table answers: "13 or 19 at the first bad column", or 16 where its type is unknown
 abbrev pub onTable : {A : Type 0} → TableParts → Answer A → Answer A
-onTable t a = onTypes (typeAt t) a
+onTable t a = onTypes (typeHanded t) a
 
 -- the layout stands beside the refusal
 abbrev pub laidIn : Answer (Unit {0}) × Table → TableAnswer
@@ -51,11 +51,11 @@ abbrev pub isCell : Next → Bool
 isCell (another x) = true
 isCell none = false
 
-abbrev pub cellOf : Next → ℕ × ℤ
-cellOf (another x) = x
-cellOf none = (0, pos 0)
+abbrev pub nextCell : Next → ℕ × ℤ
+nextCell (another x) = x
+nextCell none = (0, pos 0)
 
 abbrev pub stepIn : Answer Next × ℕ → StepAnswer
 stepIn x =
     let next = givenOr none (x .0) in
-    record { refused = refusalIn (x .0); at = x .1; found = isCell next; kind = cellOf next .0; number = cellOf next .1 }
+    record { refused = refusalIn (x .0); at = x .1; found = isCell next; kind = nextCell next .0; number = nextCell next .1 }

@@ -11,11 +11,11 @@ onKind at kind a = if unknown kind then onGiven a (λ x. refused 16 at) else a
 
 -- the number of a refusal on columns, where the one at c was handed over with the type `types c`: a bad column of an unknown type
 -- is 16
-abbrev pub numberAt : (ℕ → ℕ) → ℕ → Place → ℕ
-numberAt types n nowhere = n
-numberAt types n (column c) = if unknown (types c) then 16 else n
-numberAt types n (cell r c) = n
+abbrev pub refusalNumber : (ℕ → ℕ) → ℕ → Place → ℕ
+refusalNumber types n nowhere = n
+refusalNumber types n (column c) = if unknown (types c) then 16 else n
+refusalNumber types n (cell r c) = n
 
 abbrev pub onTypes : {A : Type 0} → (ℕ → ℕ) → Answer A → Answer A
 onTypes types (gives a) = gives a
-onTypes types (refused n at) = refused (numberAt types n at) at
+onTypes types (refused n at) = refused (refusalNumber types n at) at

@@ -9,7 +9,7 @@ use Rattle.stringpool.specs.declared.pool.StringPool.{StringPool}
 use Rattle.stringpool.specs.Pool.{Rooms}
 use Rattle.value.specs.declared.ValueRef.{ValueRef}
 use Rattle.value.specs.declared.ValueRef.the-variants as values
-use Rattle.value.specs.Kinds.{kindOf, numberOf, valueKind, valueNumber}
+use Rattle.value.specs.Kinds.{refKind, refNumber, valueKind, valueNumber}
 use Rattle.value.specs.declared.Value.{Value}
 use Rattle.value.specs.declared.Value.the-variants as plain
 use Rattle.pool_values.specs.Pooled.{createAnswer, removeAnswer, textAnswer, shownAnswer}
@@ -42,13 +42,13 @@ abbrev pub createBy : ℕ → ℤ → List ℕ → StringPool → Rooms → Answ
 createBy kind n new p w = onKind nowhere kind (createAnswer (valueKind (plainIn kind n)) (valueNumber (plainIn kind n)) new p w)
 
 abbrev pub removeBy : ℕ → ℤ → StringPool → Rooms → Answer (StringPool × Rooms)
-removeBy kind n p w = onKind nowhere kind (removeAnswer (kindOf (valueIn kind n)) (numberOf (valueIn kind n)) p w)
+removeBy kind n p w = onKind nowhere kind (removeAnswer (refKind (valueIn kind n)) (refNumber (valueIn kind n)) p w)
 
 abbrev pub shownBy : ℕ → ℤ → StringPool → Rooms → Answer (ℕ × ℤ)
-shownBy kind n p w = onKind nowhere kind (shownAnswer (kindOf (valueIn kind n)) (numberOf (valueIn kind n)) p w)
+shownBy kind n p w = onKind nowhere kind (shownAnswer (refKind (valueIn kind n)) (refNumber (valueIn kind n)) p w)
 
 abbrev pub textBy : ℕ → ℤ → StringPool → Rooms → Answer (List ℕ)
-textBy kind n p w = onKind nowhere kind (textAnswer (kindOf (valueIn kind n)) (numberOf (valueIn kind n)) p w)
+textBy kind n p w = onKind nowhere kind (textAnswer (refKind (valueIn kind n)) (refNumber (valueIn kind n)) p w)
 
 -- and with a column, which is column 0: 22, then the column's 19 or 16, then 16 for the value
 abbrev pub checkBy : ColumnParts → ℕ → ℤ → List ℕ → Answer Bool

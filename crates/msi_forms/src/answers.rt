@@ -7,7 +7,7 @@ ghost use Rattle.common.specs.Answers.{nowhere};
 ghost use Rattle.common.specs.Answers as places;
 ghost use Rattle.msi_forms.specs.Answers.{refusalAt, noRefusal, countIn};
 ghost use Rattle.value.specs.Handed.{unknown};
-ghost use Rattle.msi_forms.specs.Unknown.{numberAt};
+ghost use Rattle.msi_forms.specs.Unknown.{refusalNumber};
 
 // `place` is 0 where there is none, 1 for a column, 2 for a cell.
 #[repr(C)]
@@ -107,7 +107,7 @@ pub fn unknown_at(column: usize) -> Refused
 
 // A refusal on columns, where the one that it names was handed over with this type.
 pub fn told_of(why: Refusal, coltype: u32) -> Refused
-    ensures { λ r. ⌜ r ≡ refusalAt (numberAt (λ c. coltype) (numberOf why) (whereOf why)) (whereOf why) ⌝ }
+    ensures { λ r. ⌜ r ≡ refusalAt (refusalNumber (λ c. coltype) (numberOf why) (whereOf why)) (whereOf why) ⌝ }
 {
     let place = why.place();
     match place {

@@ -22,7 +22,7 @@ ghost use Rattle.column.specs.Check.{validityAs};
 ghost use Rattle.msi_forms.specs.Answers.{flagIn};
 ghost use Rattle.msi_forms.specs.Pools.{referenceIn};
 ghost use Rattle.common.specs.Answers as places;
-ghost use Rattle.msi_forms.specs.Columns.{typeIn, rangeIn, builderIn, columnFrom, onColumn, typeNumber, typeMaximum, rangeOf, partsOf, builderOut, columnIn};
+ghost use Rattle.msi_forms.specs.Columns.{coltypeIn, rangeIn, builderIn, columnFrom, onColumn, typeNumber, typeMaximum, rangeOf, partsOf, builderOut, columnIn};
 ghost use Rattle.msi_forms.specs.Unknown.{onKind};
 
 // The range of a column.
@@ -34,7 +34,7 @@ struct RangeParts {
 
 // An unknown type is a Str beyond its maximum, a bad column to every call.
 fn type_in(parts: ColumnParts) -> ColumnType
-    ensures { λ r. ⌜ r ≡ typeIn parts ⌝ }
+    ensures { λ r. ⌜ r ≡ coltypeIn parts ⌝ }
 {
     if parts.coltype > 3 {
         return ColumnType::Str(MAX_STRING + 1);

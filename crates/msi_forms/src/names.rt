@@ -9,7 +9,7 @@ use streamname::Decoded;
 use streamname::Encoded;
 use streamname::Validity;
 ghost use mathlib.Core.Path.{_≡_};
-ghost use Rattle.streamname.specs.Calls.{encodedAs, decodedAs, judgedAs};
+ghost use Rattle.streamname.specs.Calls.{encodedAs, decodedAs, validAs};
 ghost use Rattle.msi_forms.specs.Answers.{countIn, nameIn, flagIn};
 
 pub fn encoded(answer: Encoded) -> Count
@@ -45,7 +45,7 @@ pub fn decoded(answer: Decoded) -> Name
 }
 
 pub fn judged(answer: Validity) -> Flag
-    ensures { λ r. ⌜ r ≡ flagIn (judgedAs answer) ⌝ }
+    ensures { λ r. ⌜ r ≡ flagIn (validAs answer) ⌝ }
 {
     match answer {
         Validity::Valid => Flag {

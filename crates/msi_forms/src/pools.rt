@@ -23,7 +23,7 @@ ghost use Rattle.common.specs.Refusals.{refusedBy};
 ghost use Rattle.string_ref.specs.Refs.{madeAs};
 ghost use Rattle.stringpool.specs.Load.{loadedAs};
 ghost use Rattle.stringpool.specs.Pages.{pooledAs};
-ghost use Rattle.stringpool.specs.Show.{countedAs, showableAs};
+ghost use Rattle.stringpool.specs.Show.{refcountAs, showableAs};
 ghost use Rattle.stringpool.specs.Take.{takenAs};
 ghost use Rattle.stringpool.specs.Drop.{droppedAs};
 ghost use Rattle.stringpool.specs.Write.{writtenAs};
@@ -143,7 +143,7 @@ pub fn from_made(answer: Made) -> Reference
 }
 
 pub fn from_counted(answer: Counted) -> Count
-    ensures { λ r. ⌜ r ≡ countIn (countedAs answer) ⌝ }
+    ensures { λ r. ⌜ r ≡ countIn (refcountAs answer) ⌝ }
 {
     match answer {
         Counted::Is(count) => Count {

@@ -27,15 +27,15 @@ ghost use mathlib.Core.Path.{_≡_};
 ghost use Rattle.common.specs.Answers.{gives};
 ghost use Rattle.common.specs.Refusals.{numberOf, whereOf};
 ghost use Rattle.value.specs.Kinds.{cellAs};
-ghost use Rattle.table.specs.Layout.{laidAs, madeAs};
+ghost use Rattle.table.specs.Layout.{laidAs, tableMadeAs};
 ghost use Rattle.table.specs.Reading.{countedAs, cellReadAs};
 ghost use lib.IntN.{pos};
 ghost use mathlib.Core.Bool.{false};
 ghost use Rattle.rows.specs.Next.{stepAs};
 ghost use Rattle.rows.specs.Next as next;
-ghost use Rattle.msi_forms.specs.Answers.{countIn, refusalAt, refusalIn, handed};
-ghost use Rattle.msi_forms.specs.Tables.{tableIn, tableOut, typeAt, onTable, laidIn, newIn, cellIn, stepIn};
-ghost use Rattle.msi_forms.specs.Unknown.{numberAt};
+ghost use Rattle.msi_forms.specs.Answers.{countIn, refusalAt, refusalIn, answeredAs};
+ghost use Rattle.msi_forms.specs.Tables.{tableIn, tableOut, typeHanded, onTable, laidIn, newIn, cellIn, stepIn};
+ghost use Rattle.msi_forms.specs.Unknown.{refusalNumber};
 
 pub fn table_in(table: TableParts) -> Table
     ensures { λ r. ⌜ r ≡ tableIn table ⌝ }
@@ -72,7 +72,7 @@ fn table_out(table: Table) -> TableParts
 }
 
 fn type_at(table: TableParts, c: usize) -> u32
-    ensures { λ r. ⌜ r ≡ typeAt table c ⌝ }
+    ensures { λ r. ⌜ r ≡ typeHanded table c ⌝ }
 {
     if c >= 64 {
         return 0;
@@ -83,7 +83,7 @@ fn type_at(table: TableParts, c: usize) -> u32
 
 // A refusal on a table: at a column of an unknown type it is 16.
 fn told_in(why: Refusal, table: TableParts) -> Refused
-    ensures { λ r. ⌜ r ≡ refusalAt (numberAt (typeAt table) (numberOf why) (whereOf why)) (whereOf why) ⌝ }
+    ensures { λ r. ⌜ r ≡ refusalAt (refusalNumber (typeHanded table) (numberOf why) (whereOf why)) (whereOf why) ⌝ }
 {
     let place = why.place();
     match place {
@@ -103,7 +103,7 @@ fn refusal_of(answer: Laid) -> Refused
 }
 
 pub fn from_laid(made: TableMade) -> TableAnswer
-    ensures { λ r. ⌜ r ≡ laidIn (madeAs made) ⌝ }
+    ensures { λ r. ⌜ r ≡ laidIn (tableMadeAs made) ⌝ }
 {
     let answer = made.answer;
     let refused = refusal_of(answer);
@@ -111,9 +111,9 @@ pub fn from_laid(made: TableMade) -> TableAnswer
     TableAnswer { refused, table }
 }
 
-// The layout that was handed over, or none where it is refused.
+// The layout that was answeredAs over, or none where it is refused.
 pub fn from_new(made: TableMade, table: TableParts) -> TableAnswer
-    ensures { λ r. ⌜ r ≡ newIn table (madeAs made) ⌝ }
+    ensures { λ r. ⌜ r ≡ newIn table (tableMadeAs made) ⌝ }
 {
     let answer = made.answer;
     match answer {
@@ -198,7 +198,7 @@ fn another(value: ValueRef, at: usize) -> StepAnswer
 }
 
 pub fn from_step(step: Step, table: TableParts) -> StepAnswer
-    ensures { λ r. ⌜ r ≡ stepIn (handed (onTable table) (stepAs step)) ⌝ }
+    ensures { λ r. ⌜ r ≡ stepIn (answeredAs (onTable table) (stepAs step)) ⌝ }
 {
     let cell = step.cell;
     let at = step.at;

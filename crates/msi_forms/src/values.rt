@@ -21,7 +21,7 @@ use value::Value;
 use value::ValueRef;
 ghost use mathlib.Core.Path.{_≡_};
 ghost use Rattle.common.specs.Answers.{gives, nowhere};
-ghost use Rattle.value.specs.Kinds.{kindOf, numberOf, valueKind, valueNumber};
+ghost use Rattle.value.specs.Kinds.{refKind, refNumber, valueKind, valueNumber};
 ghost use Rattle.pool_values.specs.Pooled.{createdAs, shownAs};
 ghost use lib.IntN.{pos};
 ghost use Rattle.stringpool.specs.Drop.{droppedAs};
@@ -63,7 +63,7 @@ pub fn plain_in(kind: u8, number: i32) -> Value
 }
 
 fn created(value: ValueRef, pool: StringPool) -> CreateAnswer
-    ensures { λ r. ⌜ r ≡ createdIn (gives ((kindOf value, numberOf value), pool)) ⌝ }
+    ensures { λ r. ⌜ r ≡ createdIn (gives ((refKind value, refNumber value), pool)) ⌝ }
 {
     CreateAnswer {
         refused: none(),

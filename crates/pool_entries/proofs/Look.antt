@@ -14,9 +14,9 @@ use Rattle.common.specs.Choice.{if_then_else_}
 use Rattle.common.specs.Lists.{total}
 use Rattle.common.proofs.Sums.{total-in}
 use Rattle.common.specs.Answers.{Answer, gives, refused, nowhere}
-use Rattle.pool_entries.specs.Sound.{onSound}
+use Rattle.pool_entries.specs.Sound.{onSoundRooms}
 use Rattle.pool_entries.specs.Calls.{spotAt, chooseAnswer}
-use Rattle.pool_entries.specs.Entries.{Entry, entry, Rooms, entriesOf, free}
+use Rattle.pool_entries.specs.Entries.{Entry, entry, Rooms, firstEntries, free}
 use Rattle.pool_entries.specs.Choose.{equal, firstFreeOrEqual}
 use Rattle.pool_entries.specs.inner.Fit.{Fit}
 use Rattle.pool_entries.specs.inner.Look.{Counted, FreeAt, Others, SumTo, PassedBy, PassedTo, SmallTo, ScannedTo, ScanIs, FoundIs}
@@ -74,35 +74,35 @@ module _ (n : ℕ) (w : Rooms) (t : List ℕ) where
   At k = entry (take (getD (w .lengths) k 0) (drop (total (take k (w .lengths))) (w .text))) (getD (w .counts) k 0)
 
   module _ (fit : Fit n w) (i : ℕ) (inv : PassedTo n w t i) where
-    step : i < n → firstFreeOrEqual t (drop i (entriesOf n w))
-        ≡ (if free (At i) || equal t (At i) then 0 else firstFreeOrEqual t (drop (suc i) (entriesOf n w)) + 1)
+    step : i < n → firstFreeOrEqual t (drop i (firstEntries n w))
+        ≡ (if free (At i) || equal t (At i) then 0 else firstFreeOrEqual t (drop (suc i) (firstEntries n w)) + 1)
     step h =
-        ap (firstFreeOrEqual t) (drop-cons (entriesOf n w) i (entry [] 0) (omega (arith, length-entries n w fit)))
-        ∙ ap (λ (e : Entry). firstFreeOrEqual t (e ∷ drop (suc i) (entriesOf n w))) (entry-at n w fit i h)
+        ap (firstFreeOrEqual t) (drop-cons (firstEntries n w) i (entry [] 0) (omega (arith, length-entries n w fit)))
+        ∙ ap (λ (e : Entry). firstFreeOrEqual t (e ∷ drop (suc i) (firstEntries n w))) (entry-at n w fit i h)
 
     by-tests : i < n → (a b : Bool) → free (At i) ≡ a → equal t (At i) ≡ b
-        → firstFreeOrEqual t (entriesOf n w) ≡ i + (if a || b then 0 else firstFreeOrEqual t (drop (suc i) (entriesOf n w)) + 1)
+        → firstFreeOrEqual t (firstEntries n w) ≡ i + (if a || b then 0 else firstFreeOrEqual t (drop (suc i) (firstEntries n w)) + 1)
     by-tests h a b e f =
-        inv ∙ ap (λ (k : ℕ). i + k) (step h ∙ ap₂ (λ (x y : Bool). if x || y then 0 else firstFreeOrEqual t (drop (suc i) (entriesOf n w)) + 1) e f)
+        inv ∙ ap (λ (k : ℕ). i + k) (step h ∙ ap₂ (λ (x y : Bool). if x || y then 0 else firstFreeOrEqual t (drop (suc i) (firstEntries n w)) + 1) e f)
 
-    pub chosen-free : i < n → getD (w .counts) i 0 ≡ 0 → firstFreeOrEqual t (entriesOf n w) ≡ i
+    pub chosen-free : i < n → getD (w .counts) i 0 ≡ 0 → firstFreeOrEqual t (firstEntries n w) ≡ i
     chosen-free h z = by-tests h true (equal t (At i)) (eq-eqb _ _ z) refl ∙ add-zero i
 
     module _ (h : i < n) (c : 0 < getD (w .counts) i 0) where
       counted : free (At i) ≡ false
       counted = ne-eqb (getD (w .counts) i 0) 0 (λ (e : getD (w .counts) i 0 ≡ 0). omega arith)
 
-      pub chosen-equal : equal t (At i) ≡ true → firstFreeOrEqual t (entriesOf n w) ≡ i
+      pub chosen-equal : equal t (At i) ≡ true → firstFreeOrEqual t (firstEntries n w) ≡ i
       chosen-equal e = by-tests h false true counted e ∙ add-zero i
 
       pub chosen-next : equal t (At i) ≡ false → PassedTo n w t (i + 1)
       chosen-next e =
-          let q : i + (firstFreeOrEqual t (drop (suc i) (entriesOf n w)) + 1) ≡ i + 1 + firstFreeOrEqual t (drop (suc i) (entriesOf n w)) = omega arith in
-          by-tests h false false counted e ∙ q ∙ ap (λ (k : ℕ). i + 1 + firstFreeOrEqual t (drop k (entriesOf n w))) (sym (add-one i))
+          let q : i + (firstFreeOrEqual t (drop (suc i) (firstEntries n w)) + 1) ≡ i + 1 + firstFreeOrEqual t (drop (suc i) (firstEntries n w)) = omega arith in
+          by-tests h false false counted e ∙ q ∙ ap (λ (k : ℕ). i + 1 + firstFreeOrEqual t (drop k (firstEntries n w))) (sym (add-one i))
 
-    pub chosen-none : i ≡ n → firstFreeOrEqual t (entriesOf n w) ≡ i
+    pub chosen-none : i ≡ n → firstFreeOrEqual t (firstEntries n w) ≡ i
     chosen-none e =
-        let es : List Entry = entriesOf n w in
+        let es : List Entry = firstEntries n w in
         let l : i ≡ length es = omega (arith, length-entries n w fit) in
         inv ∙ ap (λ (k : ℕ). i + firstFreeOrEqual t (drop k es)) l ∙ ap (λ (x : List Entry). i + firstFreeOrEqual t x) (drop-length es) ∙ add-zero i
 
@@ -201,11 +201,11 @@ module _ (n page : ℕ) (w : Rooms) (t : List ℕ) where
   pub choose-over : 268435455 < length t → refused 22 nowhere ≡ chooseAnswer n page w t
   choose-over h = simp (lt-ltb 268435455 (length t) h)
 
-  pub choose-on : length t ≤ 268435455 → onSound n page w (gives (spotAt n w (firstFreeOrEqual t (entriesOf n w)))) ≡ chooseAnswer n page w t
-  choose-on h = sym (ap (λ (b : Bool). if b then refused 22 nowhere else onSound n page w (gives (spotAt n w (firstFreeOrEqual t (entriesOf n w))))) (le-ltb 268435455 (length t) h))
+  pub choose-on : length t ≤ 268435455 → onSoundRooms n page w (gives (spotAt n w (firstFreeOrEqual t (firstEntries n w)))) ≡ chooseAnswer n page w t
+  choose-on h = sym (ap (λ (b : Bool). if b then refused 22 nowhere else onSoundRooms n page w (gives (spotAt n w (firstFreeOrEqual t (firstEntries n w))))) (le-ltb 268435455 (length t) h))
 
   -- what was found in a state that fits
   pub spot-found : (k s u : ℕ) → FoundIs n w t k s → Fit n w → u ≡ total (take n (w .lengths))
-      → _≡_ {A = Answer (ℕ × ℕ × ℕ)} (gives (k, s, u)) (gives (spotAt n w (firstFreeOrEqual t (entriesOf n w))))
+      → _≡_ {A = Answer (ℕ × ℕ × ℕ)} (gives (k, s, u)) (gives (spotAt n w (firstFreeOrEqual t (firstEntries n w))))
   spot-found k s u f fit e =
       ap₂ (λ (a b : ℕ). gives (k, a, b)) (f .scanned .sum .is) e ∙ ap (λ (j : ℕ). gives (spotAt n w j)) (sym (f .chosen fit))

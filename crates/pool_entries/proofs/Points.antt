@@ -10,8 +10,8 @@ use borrow.Author.Tests.{le-leb, lt-leb, le-ltb, lt-ltb}
 use Rattle.common.specs.Choice.{if_then_else_, _≤?_}
 use Rattle.common.specs.Lists.{total}
 use Rattle.common.specs.Answers.{gives, refused, nowhere}
-use Rattle.pool_entries.specs.Entries.{Entry, rooms, entriesOf, entryRoom, free, all}
-use Rattle.pool_entries.specs.Sound.{sound}
+use Rattle.pool_entries.specs.Entries.{Entry, rooms, firstEntries, entryRoom, free, all}
+use Rattle.pool_entries.specs.Sound.{soundRooms}
 use Rattle.pool_entries.specs.inner.Sound.{smallB, fitsB}
 use Rattle.pool_entries.proofs.Sound.{sound-same, judge-size}
 use Rattle.pool_entries.specs.Points.{SizeFirst, TextFirst, EntriesFit, TooMany, CodePage, LengthsSum, FreeBytes, CountsUp, FirstOfThem}
@@ -21,7 +21,7 @@ and-false true = refl
 and-false false = refl
 
 -- one entry, by its length and its count
-one-entry : (ts : List ℕ) (l c : ℕ) (is : Bool) → length ts ≡ l → smallB l c ≡ is → total (l ∷ []) ≡ l → sound 1 0 (rooms (l ∷ []) (c ∷ []) ts) ≡ is
+one-entry : (ts : List ℕ) (l c : ℕ) (is : Bool) → length ts ≡ l → smallB l c ≡ is → total (l ∷ []) ≡ l → soundRooms 1 0 (rooms (l ∷ []) (c ∷ []) ts) ≡ is
 unfolding fitsB
 one-entry ts l c is e f t =
     sound-same 1 0 (rooms (l ∷ []) (c ∷ []) ts)
@@ -42,31 +42,31 @@ pub text-first : TextFirst
 text-first n page w t h = simp (lt-ltb 268435455 (length t) h)
 
 pub entries-fit : EntriesFit
-unfolding sound
+unfolding soundRooms
 entries-fit = (refl, refl, refl)
 
 pub too-many : TooMany
-unfolding sound
+unfolding soundRooms
 too-many n page w h =
-    let small : Bool = all (λ (e : Entry). not (free e) || length (e .text) ≤? 65535) (entriesOf n w) in
+    let small : Bool = all (λ (e : Entry). not (free e) || length (e .text) ≤? 65535) (firstEntries n w) in
     ap (λ (b : Bool). n ≤? entryRoom w && b && page ≤? 2147483647 && total (take n (w .lengths)) ≤? length (w .text) && small) (lt-leb n 16777215 h)
     ∙ ap (λ (b : Bool). b && page ≤? 2147483647 && total (take n (w .lengths)) ≤? length (w .text) && small) (and-false (n ≤? entryRoom w))
 
 pub code-page : CodePage
-unfolding sound
+unfolding soundRooms
 code-page = (refl, refl)
 
 pub lengths-sum : LengthsSum
-unfolding sound
+unfolding soundRooms
 lengths-sum = (refl, refl)
 
 pub free-bytes : FreeBytes
 free-bytes = (λ ts e. one-entry ts 65535 0 true e refl refl, λ ts e. one-entry ts 65536 0 false e refl refl, λ ts e. one-entry ts 65536 1 true e refl refl)
 
 pub counts-up : CountsUp
-unfolding sound
+unfolding soundRooms
 counts-up = (refl, refl, refl, refl)
 
 pub first-of-them : FirstOfThem
-unfolding sound
+unfolding soundRooms
 first-of-them = (refl, refl, refl, refl, refl)

@@ -13,7 +13,7 @@ use Rattle.common.specs.Choice.{if_then_else_, _≤?_, _=?_}
 use Rattle.common.specs.Lists.{total}
 use Rattle.common.specs.Answers.{Answer, refused, nowhere}
 use Rattle.pool_entries.specs.Entries.{Entry, Rooms, cut, entryRoom, free, all}
-use Rattle.pool_entries.specs.Sound.{sound, onSound}
+use Rattle.pool_entries.specs.Sound.{soundRooms, onSoundRooms}
 use Rattle.pool_entries.specs.inner.Fit.{Fit}
 use Rattle.pool_entries.specs.inner.Adding.{Short}
 use Rattle.pool_entries.specs.inner.Look.{SmallTo}
@@ -153,8 +153,8 @@ guard true true x y h = h refl
 guard true false x y h = refl
 guard false f x y h = refl
 
-pub sound-same : (n page : ℕ) (w : Rooms) → sound n page w ≡ soundB n page w
-unfolding sound fitsB
+pub sound-same : (n page : ℕ) (w : Rooms) → soundRooms n page w ≡ soundB n page w
+unfolding soundRooms fitsB
 sound-same n page w =
     let ls : List ℕ = take n (w .lengths) in
     let cs : List ℕ = take n (w .counts) in
@@ -199,16 +199,16 @@ fits-few n page ls cs e =
 -- ---- the judgement, test by test
 
 module _ {A : Type 0} (n page : ℕ) (w : Rooms) (a : Answer A) where
-  pub judge-size : 268435455 < length (w .text) → refused 22 nowhere ≡ onSound n page w a
+  pub judge-size : 268435455 < length (w .text) → refused 22 nowhere ≡ onSoundRooms n page w a
   judge-size h = simp (lt-ltb 268435455 (length (w .text)) h)
 
   module _ (hw : length (w .text) ≤ 268435455) where
-    by-sound : (b : Bool) → soundB n page w ≡ b → (if not b then refused 24 nowhere else a) ≡ onSound n page w a
+    by-sound : (b : Bool) → soundB n page w ≡ b → (if not b then refused 24 nowhere else a) ≡ onSoundRooms n page w a
     by-sound b e =
         sym (ap₂ (λ (x y : Bool). if x then refused 22 nowhere else if not y then refused 24 nowhere else a)
         (le-ltb 268435455 (length (w .text)) hw) (sound-same n page w ∙ e))
 
-    pub judge-out : fitsB n page (w .lengths) (w .counts) ≡ false → refused 24 nowhere ≡ onSound n page w a
+    pub judge-out : fitsB n page (w .lengths) (w .counts) ≡ false → refused 24 nowhere ≡ onSoundRooms n page w a
     judge-out e = by-sound false (ap (λ (b : Bool). if b then sumsB n (w .lengths) (w .counts) (length (w .text)) else false) e)
 
     module _ (fits : fitsB n page (w .lengths) (w .counts) ≡ true) where
@@ -218,7 +218,7 @@ module _ {A : Type 0} (n page : ℕ) (w : Rooms) (a : Answer A) where
       sound-is : (b : Bool) → Sums ≡ b → soundB n page w ≡ b
       sound-is b e = ap (λ (x : Bool). if x then Sums else false) fits ∙ e
 
-      pub judge-unsound : Unsound ≡ usedOf n (w .lengths) (w .counts) (length (w .text)) → refused 24 nowhere ≡ onSound n page w a
+      pub judge-unsound : Unsound ≡ usedOf n (w .lengths) (w .counts) (length (w .text)) → refused 24 nowhere ≡ onSoundRooms n page w a
       judge-unsound e = by-sound false (sound-is false (go Sums e))
         where
           go : (b : Bool) → Unsound ≡ (if b then Bytes (total (take n (w .lengths))) else Unsound) → b ≡ false
@@ -233,7 +233,7 @@ module _ {A : Type 0} (n page : ℕ) (w : Rooms) (a : Answer A) where
         pub judge-used : b ≡ total (take n (w .lengths))
         judge-used = go Sums e .1
 
-        pub judge-sound : a ≡ onSound n page w a
+        pub judge-sound : a ≡ onSoundRooms n page w a
         judge-sound = by-sound true (sound-is true (go Sums e .0))
 
         pub judge-fit : Fit n w

@@ -6,8 +6,8 @@ use Rattle.common.specs.Sizes.{maxBytes}
 use Rattle.common.specs.Choice.{if_then_else_, _<?_}
 use Rattle.common.specs.Lists.{total}
 use Rattle.common.specs.Answers.{Answer, gives, refused, nowhere}
-use Rattle.pool_entries.specs.Entries.{Rooms, entriesOf}
-use Rattle.pool_entries.specs.Sound.{onSound}
+use Rattle.pool_entries.specs.Entries.{Rooms, firstEntries}
+use Rattle.pool_entries.specs.Sound.{onSoundRooms}
 use Rattle.pool_entries.specs.Choose.{firstFreeOrEqual}
 use Rattle.pool_entries.specs.declared.judging.State.{State}
 use Rattle.pool_entries.specs.declared.judging.State.the-variants as state
@@ -16,7 +16,7 @@ use Rattle.pool_entries.specs.declared.choosing.Choice.the-variants as c
 
 -- of a sound state, the bytes that its texts use
 abbrev pub judgeAnswer : ℕ → ℕ → Rooms → Answer ℕ
-judgeAnswer n codepage w = onSound n codepage w (gives (total (take n (w .lengths))))
+judgeAnswer n codepage w = onSoundRooms n codepage w (gives (total (take n (w .lengths))))
 
 -- a place, where its text starts, and the bytes that all texts use
 abbrev pub spotAt : ℕ → Rooms → ℕ → ℕ × ℕ × ℕ
@@ -26,7 +26,7 @@ spotAt n w k = (k, total (take k (w .lengths)), total (take n (w .lengths)))
 abbrev pub chooseAnswer : ℕ → ℕ → Rooms → List ℕ → Answer (ℕ × ℕ × ℕ)
 chooseAnswer n codepage w t =
     if maxBytes <? length t then refused 22 nowhere
-    else onSound n codepage w (gives (spotAt n w (firstFreeOrEqual t (entriesOf n w))))
+    else onSoundRooms n codepage w (gives (spotAt n w (firstFreeOrEqual t (firstEntries n w))))
 
 abbrev pub judgedAs : State → Answer ℕ
 judgedAs (state.Sound used) = gives used

@@ -29,8 +29,8 @@ cut (l ∷ ls) [] ts = []
 cut (l ∷ ls) (c ∷ cs) ts = entry (take l ts) c ∷ cut ls cs (drop l ts)
 
 -- the entries of the rooms, by the entry count
-abbrev pub entriesOf : ℕ → Rooms → List Entry
-entriesOf n w = cut (take n (w .lengths)) (take n (w .counts)) (w .text)
+abbrev pub firstEntries : ℕ → Rooms → List Entry
+firstEntries n w = cut (take n (w .lengths)) (take n (w .counts)) (w .text)
 
 -- "The entry room is the shorter of the lent lengths and counts"
 abbrev pub entryRoom : Rooms → ℕ

@@ -9,16 +9,16 @@ use Rattle.common.specs.Lists.{total}
 use Rattle.common.specs.Sizes.{maxBytes, maxEntries}
 use Rattle.common.specs.Answers.{gives, refused, nowhere}
 use Rattle.pool_entries.specs.Entries.{Entry, entry, Rooms, rooms}
-use Rattle.pool_entries.specs.Sound.{sound}
+use Rattle.pool_entries.specs.Sound.{soundRooms}
 use Rattle.pool_entries.specs.Calls.{judgeAnswer, chooseAnswer}
 use Rattle.pool_entries.specs.Choose.{equal, firstFreeOrEqual}
 
 -- ---- 22, then 24
 
--- "text room at most 268,435,455 bytes": above it 22, whatever the state, so also an unsound one; at it a sound state is judged so
+-- "text room at most 268,435,455 bytes": above it 22, whatever the state, so also an unsound one; at it a soundRooms state is judged so
 abbrev pub SizeFirst : Type 0
 SizeFirst = ((n codepage : ℕ) (w : Rooms) → maxBytes < length (w .text) → judgeAnswer n codepage w ≡ refused 22 nowhere)
-    × ((n codepage : ℕ) (w : Rooms) → length (w .text) ≤ maxBytes → sound n codepage w ≡ true → judgeAnswer n codepage w ≡ gives (total (take n (w .lengths))))
+    × ((n codepage : ℕ) (w : Rooms) → length (w .text) ≤ maxBytes → soundRooms n codepage w ≡ true → judgeAnswer n codepage w ≡ gives (total (take n (w .lengths))))
 
 -- the same for "texts handed in"
 abbrev pub TextFirst : Type 0
@@ -28,24 +28,24 @@ TextFirst = (n codepage : ℕ) (w : Rooms) (t : List ℕ) → maxBytes < length 
 
 -- "entries fit their rooms": two entries in rooms for two lengths and two counts, two and one, one and two
 abbrev pub EntriesFit : Type 0
-EntriesFit = (sound 2 0 (rooms (0 ∷ 0 ∷ []) (1 ∷ 1 ∷ []) []) ≡ true) × (sound 2 0 (rooms (0 ∷ 0 ∷ []) (1 ∷ []) []) ≡ false)
-    × (sound 2 0 (rooms (0 ∷ []) (1 ∷ 1 ∷ []) []) ≡ false)
+EntriesFit = (soundRooms 2 0 (rooms (0 ∷ 0 ∷ []) (1 ∷ 1 ∷ []) []) ≡ true) × (soundRooms 2 0 (rooms (0 ∷ 0 ∷ []) (1 ∷ []) []) ≡ false)
+    × (soundRooms 2 0 (rooms (0 ∷ []) (1 ∷ 1 ∷ []) []) ≡ false)
 
 -- "and number at most 16,777,215": more are unsound in any rooms
 abbrev pub TooMany : Type 0
-TooMany = (n codepage : ℕ) (w : Rooms) → maxEntries < n → sound n codepage w ≡ false
+TooMany = (n codepage : ℕ) (w : Rooms) → maxEntries < n → soundRooms n codepage w ≡ false
 
 -- "the code page has 31 bits"
 abbrev pub CodePage : Type 0
-CodePage = (sound 0 2147483647 (rooms [] [] []) ≡ true) × (sound 0 2147483648 (rooms [] [] []) ≡ false)
+CodePage = (soundRooms 0 2147483647 (rooms [] [] []) ≡ true) × (soundRooms 0 2147483648 (rooms [] [] []) ≡ false)
 
 -- "lengths sum to at most the text room"
 abbrev pub LengthsSum : Type 0
-LengthsSum = (sound 2 0 (rooms (1 ∷ 2 ∷ []) (1 ∷ 1 ∷ []) (65 ∷ 66 ∷ 67 ∷ [])) ≡ true) × (sound 2 0 (rooms (1 ∷ 2 ∷ []) (1 ∷ 1 ∷ []) (65 ∷ 66 ∷ [])) ≡ false)
+LengthsSum = (soundRooms 2 0 (rooms (1 ∷ 2 ∷ []) (1 ∷ 1 ∷ []) (65 ∷ 66 ∷ 67 ∷ [])) ≡ true) × (soundRooms 2 0 (rooms (1 ∷ 2 ∷ []) (1 ∷ 1 ∷ []) (65 ∷ 66 ∷ [])) ≡ false)
 
 -- "an entry with count 0 has at most 65,535 bytes": one entry of a length and a count, whose bytes are all there
 abbrev pub OneEntry : ℕ → ℕ → Bool → Type 0
-OneEntry l c is = (ts : List ℕ) → length ts ≡ l → sound 1 0 (rooms (l ∷ []) (c ∷ []) ts) ≡ is
+OneEntry l c is = (ts : List ℕ) → length ts ≡ l → soundRooms 1 0 (rooms (l ∷ []) (c ∷ []) ts) ≡ is
 
 abbrev pub FreeBytes : Type 0
 FreeBytes = OneEntry 65535 0 true × OneEntry 65536 0 false × OneEntry 65536 1 true

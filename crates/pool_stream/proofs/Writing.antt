@@ -12,7 +12,7 @@ use Rattle.common.specs.Choice.{if_then_else_}
 use Rattle.common.specs.Lists.{_over_, overAt, joined, total}
 use Rattle.common.specs.Answers.{Answer, gives, refused, nowhere, outcome, writtenTo}
 use Rattle.common.proofs.Parts.{over-next}
-use Rattle.little_endian.specs.Numbers.{bytesOf, writeOutcome}
+use Rattle.little_endian.specs.Numbers.{bytesOf, putOutcome}
 use Rattle.little_endian.proofs.Laws.{written}
 use Rattle.pool_entries.specs.Entries.{Entry, Rooms, cut}
 use Rattle.pool_entries.specs.inner.Fit.{Fit}
@@ -46,7 +46,7 @@ length-entry l c = go (wide l c) refl
 
 -- what `write` leaves where the bytes have room
 pub wrote : {a : Answer ℕ} {left : List ℕ} (n width : ℕ) (out : List ℕ) (at : ℕ) → at + width ≤ length out
-    → (a, left) ≡ writeOutcome n width out at → left ≡ overAt at (bytesOf width n) out
+    → (a, left) ≡ putOutcome n width out at → left ≡ overAt at (bytesOf width n) out
 wrote n width out at h e = ap (λ (x : _). x .1) (e ∙ sym (written n width out at _ h refl))
 
 -- the two or three writes of an entry

@@ -7,7 +7,7 @@ use Rattle.common.specs.Choice.{if_then_else_, _<?_, _≤?_, _=?_}
 use Rattle.common.specs.Lists.{joined}
 use Rattle.common.specs.Answers.{Answer, gives, refused, nowhere, onGiven}
 use Rattle.little_endian.specs.Numbers.{numberAt, bytesOf}
-use Rattle.pool_entries.specs.Entries.{Entry, Rooms, entriesOf}
+use Rattle.pool_entries.specs.Entries.{Entry, Rooms, firstEntries}
 
 -- what stands at the front of the bytes that are left of a pool stream: an entry's length, its count, whether the length
 -- took the 4-byte form, and how many bytes the entry takes; a cut entry; or the end with its stray bytes
@@ -61,4 +61,4 @@ markOf long codepage = codepage + (if long then 2147483648 else 0)
 
 -- the mark, "then entries"
 abbrev pub streamBytes : ℕ → Bool → ℕ → Rooms → List ℕ
-streamBytes n long codepage w = bytesOf 4 (markOf long codepage) ++ joined (map (λ (e : Entry). entryBytes (length (e .text)) (e .count)) (entriesOf n w))
+streamBytes n long codepage w = bytesOf 4 (markOf long codepage) ++ joined (map (λ (e : Entry). entryBytes (length (e .text)) (e .count)) (firstEntries n w))

@@ -22,7 +22,7 @@ use Rattle.stringpool.specs.Pool.{Rooms, sound, onSound}
 use Rattle.stringpool.specs.Take.{takenAs, takeAnswer, firstFreeOrEqual}
 use Rattle.stringpool.specs.Drop.{droppedAs}
 use Rattle.stringpool.specs.Show.{showAnswer, showableAs, orEmpty}
-use Rattle.value.specs.Kinds.{kindOf, numberOf as numberOfValue, valueKind, valueNumber}
+use Rattle.value.specs.Kinds.{refKind, refNumber as numberOfValue, valueKind, valueNumber}
 use Rattle.pool_values.specs.Pooled.{createdAs, createOutcome, shownAs, shownAnswer, textAnswer}
 use Rattle.pool_values.specs.inner.Pooled.{createdOf, plainOf, keptBy, shownOf}
 use Rattle.value.specs.declared.ValueRef.{ValueRef}
@@ -96,35 +96,35 @@ given-on (refused m p) y e = absurd (let z : _≡_ {A = ℕ} 0 1 = cc in omega a
 
 module _ (v : ValueRef) (p : StringPool) (w : Rooms) where
   abbrev asked : ℤ
-  asked = if kindOf v =? 2 then numberOfValue v else pos 1
+  asked = if refKind v =? 2 then numberOfValue v else pos 1
 
-  pub shown-refused : (q : ℤ) (x : Refusal) → q ≡ asked → refusedBy x ≡ refusalOf (showAnswer p w q) → refusedBy x ≡ shownAnswer (kindOf v) (numberOfValue v) p w
-  shown-refused q x f e = go (kindOf v =? 2) refl (rw f at e)
+  pub shown-refused : (q : ℤ) (x : Refusal) → q ≡ asked → refusedBy x ≡ refusalOf (showAnswer p w q) → refusedBy x ≡ shownAnswer (refKind v) (numberOfValue v) p w
+  shown-refused q x f e = go (refKind v =? 2) refl (rw f at e)
     where
-      go : (b : Bool) → (kindOf v =? 2) ≡ b → refusedBy x ≡ refusalOf (showAnswer p w (if b then numberOfValue v else pos 1))
-          → _≡_ {A = Answer (ℕ × ℤ)} (refusedBy x) (onGiven (if b then showAnswer p w (numberOfValue v) else onSound p w (gives [])) (λ t. gives (kindOf v, if b then pos 0 else numberOfValue v)))
+      go : (b : Bool) → (refKind v =? 2) ≡ b → refusedBy x ≡ refusalOf (showAnswer p w (if b then numberOfValue v else pos 1))
+          → _≡_ {A = Answer (ℕ × ℤ)} (refusedBy x) (onGiven (if b then showAnswer p w (numberOfValue v) else onSound p w (gives [])) (λ t. gives (refKind v, if b then pos 0 else numberOfValue v)))
       go true g e = refused-on (showAnswer p w (numberOfValue v)) _ _ _ e
-      go false g e = sym (ap (λ (y : Answer (List ℕ)). onGiven {B = ℕ × ℤ} y (λ t. gives (kindOf v, numberOfValue v))) (unsound p w _ (gives []) (numberOf x) (whereOf x) e))
+      go false g e = sym (ap (λ (y : Answer (List ℕ)). onGiven {B = ℕ × ℤ} y (λ t. gives (refKind v, numberOfValue v))) (unsound p w _ (gives []) (numberOf x) (whereOf x) e))
 
-  shown-is : (v : ValueRef) → _≡_ {A = Answer (ℕ × ℤ)} (shownAs (shown.Value (shownOf v))) (gives (kindOf v, if kindOf v =? 2 then pos 0 else numberOfValue v))
+  shown-is : (v : ValueRef) → _≡_ {A = Answer (ℕ × ℤ)} (shownAs (shown.Value (shownOf v))) (gives (refKind v, if refKind v =? 2 then pos 0 else numberOfValue v))
   shown-is ref.Null = refl
   shown-is (ref.Int n) = refl
   shown-is (ref.Str r) = refl
   shown-is ref.Binary = refl
 
-  pub shown-given : (q : ℤ) → q ≡ asked → gives tt ≡ refusalOf (showAnswer p w q) → shownAs (shown.Value (shownOf v)) ≡ shownAnswer (kindOf v) (numberOfValue v) p w
-  shown-given q f e = shown-is v ∙ go (kindOf v =? 2) (rw f at e)
+  pub shown-given : (q : ℤ) → q ≡ asked → gives tt ≡ refusalOf (showAnswer p w q) → shownAs (shown.Value (shownOf v)) ≡ shownAnswer (refKind v) (numberOfValue v) p w
+  shown-given q f e = shown-is v ∙ go (refKind v =? 2) (rw f at e)
     where
       go : (b : Bool) → gives tt ≡ refusalOf (showAnswer p w (if b then numberOfValue v else pos 1))
-          → _≡_ {A = Answer (ℕ × ℤ)} (gives (kindOf v, if b then pos 0 else numberOfValue v))
-          (onGiven (if b then showAnswer p w (numberOfValue v) else onSound p w (gives [])) (λ t. gives (kindOf v, if b then pos 0 else numberOfValue v)))
-      go true e = given-on (showAnswer p w (numberOfValue v)) (gives (kindOf v, pos 0)) e
-      go false e = sym (ap (λ (y : Answer (List ℕ)). onGiven {B = ℕ × ℤ} y (λ t. gives (kindOf v, numberOfValue v))) (is-sound p w _ (gives []) e))
+          → _≡_ {A = Answer (ℕ × ℤ)} (gives (refKind v, if b then pos 0 else numberOfValue v))
+          (onGiven (if b then showAnswer p w (numberOfValue v) else onSound p w (gives [])) (λ t. gives (refKind v, if b then pos 0 else numberOfValue v)))
+      go true e = given-on (showAnswer p w (numberOfValue v)) (gives (refKind v, pos 0)) e
+      go false e = sym (ap (λ (y : Answer (List ℕ)). onGiven {B = ℕ × ℤ} y (λ t. gives (refKind v, numberOfValue v))) (is-sound p w _ (gives []) e))
 
-  pub text-shown : (a : List ℕ) → (kindOf v =? 2) ≡ true → a ≡ orEmpty (showAnswer p w (numberOfValue v)) → a ≡ orEmpty (textAnswer (kindOf v) (numberOfValue v) p w)
+  pub text-shown : (a : List ℕ) → (refKind v =? 2) ≡ true → a ≡ orEmpty (showAnswer p w (numberOfValue v)) → a ≡ orEmpty (textAnswer (refKind v) (numberOfValue v) p w)
   text-shown a k e = rw k e
 
-  pub text-none : (kindOf v =? 2) ≡ false → [] ≡ orEmpty (textAnswer (kindOf v) (numberOfValue v) p w)
+  pub text-none : (refKind v =? 2) ≡ false → [] ≡ orEmpty (textAnswer (refKind v) (numberOfValue v) p w)
   text-none k = rw k (go (ltb 268435455 (length (w .text))) (sound p w))
     where
       go : (s t : Bool) → [] ≡ orEmpty (if s then refused 22 nowhere else if not t then refused 24 nowhere else gives [])
@@ -142,7 +142,7 @@ module _ (v : Value) (new : List ℕ) (p : StringPool) (w : Rooms) (k : (valueKi
     pub create-refused : {A : Type 0} (a : A) (x : Refusal) → refusedBy x ≡ refusalOf (onSound p w (gives a)) → (refusedBy x, w) ≡ createOutcome (valueKind v) (valueNumber v) new p w
     create-refused a x e = rw (k, le-ltb maxBytes (length new) h) (sym (ap (outcome w) (unsound p w a _ (numberOf x) (whereOf x) e)))
 
-    plain-is : (v : Value) → (valueKind v =? 2) ≡ false → _≡_ {A = ℕ × ℤ} (kindOf (plainOf v), numberOfValue (plainOf v)) (valueKind v, valueNumber v)
+    plain-is : (v : Value) → (valueKind v =? 2) ≡ false → _≡_ {A = ℕ × ℤ} (refKind (plainOf v), numberOfValue (plainOf v)) (valueKind v, valueNumber v)
     plain-is plain.Null e = refl
     plain-is (plain.Int n) e = refl
     plain-is plain.Str e = absurd (true≢false e)

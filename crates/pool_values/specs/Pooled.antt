@@ -12,7 +12,7 @@ use Rattle.stringpool.specs.Pool.{Rooms, onSound}
 use Rattle.stringpool.specs.Take.{takeAnswer, firstFreeOrEqual}
 use Rattle.stringpool.specs.Drop.{dropAnswer}
 use Rattle.stringpool.specs.Show.{showAnswer}
-use Rattle.value.specs.Kinds.{kindOf, numberOf, valueKind, valueNumber}
+use Rattle.value.specs.Kinds.{refKind, refNumber, valueKind, valueNumber}
 use Rattle.pool_values.specs.declared.Created.{Created}
 use Rattle.pool_values.specs.declared.Created.the-variants as created
 use Rattle.pool_values.specs.declared.Shown.{Shown}
@@ -44,7 +44,7 @@ abbrev pub shownAnswer : ℕ → ℤ → StringPool → Rooms → Answer (ℕ ×
 shownAnswer kind n p w = onGiven (textAnswer kind n p w) (λ t. gives (kind, if kind =? 2 then pos 0 else n))
 
 abbrev pub createdAs : Created → Answer ((ℕ × ℤ) × StringPool)
-createdAs (created.Value v p) = gives ((kindOf v, numberOf v), p)
+createdAs (created.Value v p) = gives ((refKind v, refNumber v), p)
 createdAs (created.Refused x) = refusedBy x
 
 abbrev pub shownAs : Shown → Answer (ℕ × ℤ)

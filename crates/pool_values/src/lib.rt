@@ -12,7 +12,7 @@ ghost use mathlib.Core.Path.{_≡_};
 ghost use Rattle.stringpool.specs.Pool.{rooms};
 ghost use Rattle.stringpool.specs.Drop.{droppedAs};
 ghost use Rattle.stringpool.specs.Show.{orEmpty};
-ghost use Rattle.value.specs.Kinds.{kindOf, numberOf, valueKind, valueNumber};
+ghost use Rattle.value.specs.Kinds.{refKind, refNumber, valueKind, valueNumber};
 ghost use Rattle.pool_values.specs.Pooled.{createdAs, createOutcome, removeOutcome, shownAs, shownAnswer, textAnswer};
 ghost use Rattle.pool_values.specs.inner.Pooled.{createdOf, plainOf, keptBy, shownOf};
 ghost use Rattle.common.specs.Choice.{if_then_else_, _=?_};
@@ -62,7 +62,7 @@ pub fn remove(
     text: &mut [u8],
 ) -> Dropped
     ensures { λ a. ⌜ (droppedAs a, rooms (now (lengths .exit)) (now (counts .exit)) (now (text .exit)))
-        ≡ removeOutcome (kindOf value) (numberOf value) pool (rooms (now (lengths .entry)) (now (counts .entry)) (now (text .entry))) ⌝ }
+        ≡ removeOutcome (refKind value) (refNumber value) pool (rooms (now (lengths .entry)) (now (counts .entry)) (now (text .entry))) ⌝ }
 {
     if is_reference(value) {
         return pool.decref(lengths, counts, text, value.number());
@@ -81,7 +81,7 @@ pub fn to_value(
     counts: &[u16],
     text: &[u8],
 ) -> Shown
-    ensures { λ a. ⌜ shownAs a ≡ shownAnswer (kindOf value) (numberOf value) pool (rooms (now (lengths .entry)) (now (counts .entry)) (now (text .entry))) ⌝ }
+    ensures { λ a. ⌜ shownAs a ≡ shownAnswer (refKind value) (refNumber value) pool (rooms (now (lengths .entry)) (now (counts .entry)) (now (text .entry))) ⌝ }
 {
     let sound = pool.get_refusal(lengths, counts, text, asked_for(value));
     if let Showable::Refused(refusal) = sound {
@@ -98,7 +98,7 @@ pub fn to_text<'a>(
     counts: &[u16],
     text: &'a [u8],
 ) -> &'a [u8]
-    ensures { λ a. ⌜ now a ≡ orEmpty (textAnswer (kindOf value) (numberOf value) pool (rooms (now (lengths .entry)) (now (counts .entry)) (now (text .entry)))) ⌝ }
+    ensures { λ a. ⌜ now a ≡ orEmpty (textAnswer (refKind value) (refNumber value) pool (rooms (now (lengths .entry)) (now (counts .entry)) (now (text .entry)))) ⌝ }
 {
     if is_reference(value) {
         return pool.get(lengths, counts, text, value.number());
@@ -138,7 +138,7 @@ fn kept_by(pool: StringPool, sound: Showable) -> Dropped
 
 // The number that is looked up: a reference's own, else the least, which every sound pool shows.
 fn asked_for(value: ValueRef) -> i32
-    ensures { λ r. ⌜ r ≡ (if kindOf value =? 2 then numberOf value else pos 1) ⌝ }
+    ensures { λ r. ⌜ r ≡ (if refKind value =? 2 then refNumber value else pos 1) ⌝ }
 {
     if is_reference(value) {
         return value.number();
@@ -147,7 +147,7 @@ fn asked_for(value: ValueRef) -> i32
 }
 
 fn is_reference(value: ValueRef) -> bool
-    ensures { λ r. ⌜ r ≡ (kindOf value =? 2) ⌝ }
+    ensures { λ r. ⌜ r ≡ (refKind value =? 2) ⌝ }
 {
     value.kind() == 2
 }

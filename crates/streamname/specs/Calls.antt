@@ -46,7 +46,7 @@ abbrev pub decodedAs : Decoded → Answer (ℕ × Bool)
 decodedAs (decode.Name n table) = gives (n, table)
 decodedAs (decode.Refused x) = refusedBy x
 
-abbrev pub judgedAs : Validity → Answer Bool
-judgedAs judge.Valid = gives true
-judgedAs judge.Invalid = gives false
-judgedAs (judge.Refused x) = refusedBy x
+abbrev pub validAs : Validity → Answer Bool
+validAs judge.Valid = gives true
+validAs judge.Invalid = gives false
+validAs (judge.Refused x) = refusedBy x

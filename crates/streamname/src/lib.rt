@@ -17,7 +17,7 @@ use common::sizes::MAX_STORED;
 ghost use mathlib.Core.Path.{_≡_};
 ghost use mathlib.Core.Bool.{not, _||_};
 ghost use Rattle.streamname.specs.Names.{isTable};
-ghost use Rattle.streamname.specs.Calls.{encodedAs, decodedAs, judgedAs, encodeOutcome, decodeOutcome, validAnswer};
+ghost use Rattle.streamname.specs.Calls.{encodedAs, decodedAs, validAs, encodeOutcome, decodeOutcome, validAnswer};
 
 // The unit in front of a table's name.
 const TABLE_PREFIX: u16 = 0x4840;
@@ -93,7 +93,7 @@ fn keeps_flag(name: &[u16], is_table: bool) -> bool
 
 // Whether a name works as a stream's once it is encoded.
 pub fn is_valid(name: &[u16], is_table: bool) -> Validity
-    ensures { λ r. ⌜ judgedAs r ≡ validAnswer (now (name .entry)) «is_table» ⌝ }
+    ensures { λ r. ⌜ validAs r ≡ validAnswer (now (name .entry)) «is_table» ⌝ }
 {
     if MAX_NAME < name.len() {
         return Validity::Refused(Refusal::OverSize);

@@ -8,7 +8,7 @@ use lib.IntN.{ℤ}
 use lib.Dec.{leb}
 use borrow.Author.Tests.{le-leb, lt-leb}
 use mathlib.Core.Bool.{Bool, true, false}
-use Rattle.stringpool.specs.inner.Entries.{Entry, Rooms, rooms, Fit, entriesOf, putBack}
+use Rattle.stringpool.specs.inner.Entries.{Entry, Rooms, rooms, Fit, firstEntries, putBack}
 use Rattle.stringpool.specs.inner.Refs.{placeOf}
 use Rattle.stringpool.specs.inner.Drop.{none, downAt, droppedBy}
 use Rattle.stringpool.specs.inner.Plan.{Ready, Planned}
@@ -39,25 +39,25 @@ use Rattle.stringpool.specs.declared.judge.Judged.the-variants as judged
 
 module _ (n : ℕ) (w : Rooms) (fit : Fit n w) (k : ℕ) (hk : k < n) where
   -- the entry's count is what the counts hold
-  pub count-at : getD (entriesOf n w) k none .count ≡ getD (w .counts) k 0
+  pub count-at : getD (firstEntries n w) k none .count ≡ getD (w .counts) k 0
   count-at = ap (λ (e : Entry). e .count) (entry-at n w fit k hk)
 
   -- the last reference
-  down-last : getD (w .counts) k 0 ≤ 1 → putBack n w (set (entriesOf n w) k none) ≡ putBack n w (downAt (entriesOf n w) k)
+  down-last : getD (w .counts) k 0 ≤ 1 → putBack n w (set (firstEntries n w) k none) ≡ putBack n w (downAt (firstEntries n w) k)
   down-last e =
-      let e₀ : Entry = getD (entriesOf n w) k none in
+      let e₀ : Entry = getD (firstEntries n w) k none in
       let t : leb (e₀ .count) 1 ≡ true = le-leb (e₀ .count) 1 (omega (arith, count-at)) in
-      ap (λ (b : Bool). putBack n w (set (entriesOf n w) k (if b then entry [] 0 else entry (e₀ .text) (e₀ .count - 1)))) (sym t)
+      ap (λ (b : Bool). putBack n w (set (firstEntries n w) k (if b then entry [] 0 else entry (e₀ .text) (e₀ .count - 1)))) (sym t)
 
   -- any other
   down-more : 1 < getD (w .counts) k 0
-      → rooms (w .lengths) (set (w .counts) k (getD (w .counts) k 0 - 1)) (w .text) ≡ putBack n w (downAt (entriesOf n w) k)
+      → rooms (w .lengths) (set (w .counts) k (getD (w .counts) k 0 - 1)) (w .text) ≡ putBack n w (downAt (firstEntries n w) k)
   down-more h =
-      let e₀ : Entry = getD (entriesOf n w) k none in
+      let e₀ : Entry = getD (firstEntries n w) k none in
       let t : leb (e₀ .count) 1 ≡ false = lt-leb (e₀ .count) 1 (omega (arith, count-at)) in
       sym (put-count n w fit k hk (getD (w .counts) k 0 - 1))
-      ∙ ap (λ (i : ℕ). putBack n w (set (entriesOf n w) k (record { text = e₀ .text; count = i - 1 }))) (sym count-at)
-      ∙ ap (λ (b : Bool). putBack n w (set (entriesOf n w) k (if b then entry [] 0 else entry (e₀ .text) (e₀ .count - 1)))) (sym t)
+      ∙ ap (λ (i : ℕ). putBack n w (set (firstEntries n w) k (record { text = e₀ .text; count = i - 1 }))) (sym count-at)
+      ∙ ap (λ (b : Bool). putBack n w (set (firstEntries n w) k (if b then entry [] 0 else entry (e₀ .text) (e₀ .count - 1)))) (sym t)
 
 -- ---- each answer of a drop on a sound pool, with its step
 
@@ -80,7 +80,7 @@ module _ (p : StringPool) (r : ℤ) (w : Rooms) (fit : Fit (p .«num_strings») 
   n = p .«num_strings»
 
   abbrev es : List Entry
-  es = entriesOf n w
+  es = firstEntries n w
 
   at : (a : Answer (StringPool × Rooms)) → dropAt p w (k .0) ≡ a → outcome w a ≡ outcome w (onReference r (dropAt p w))
   at a f = sym (ap (outcome w) (on-reference r (dropAt p w) ∙ ap (λ (x : Placed). byPlace x (dropAt p w)) e ∙ f))

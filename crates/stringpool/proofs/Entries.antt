@@ -9,7 +9,7 @@ use lib.ListN.{length, take, drop, getD, set, replicate, length-append, length-d
 use lib.Seq.{take-add, drop-drop, set-append-left, length-take-le, set-getD, getD-take, take-take, set-split}
 use Rattle.common.specs.Lists.{total}
 use Rattle.text_room.specs.Texts.{splice}
-use Rattle.stringpool.specs.inner.Entries.{Entry, Rooms, rooms, Fit, cut, entriesOf, texts, lengthsOf, countsOf, putBack}
+use Rattle.stringpool.specs.inner.Entries.{Entry, Rooms, rooms, Fit, cut, firstEntries, texts, lengthsOf, countsOf, putBack}
 use Rattle.stringpool.specs.inner.Drop.{none}
 use Rattle.text_room.proofs.Splice.{front, length-front}
 use Rattle.common.proofs.Lists.{map-set}
@@ -70,14 +70,14 @@ put-set n l k v h hk =
 
 -- The rooms with one entry replaced: one store to the lengths, one to the counts, and the text spliced.
 module _ (n : ℕ) (w : Rooms) (fit : Fit n w) (k : ℕ) (hk : k < n) where
-  pub texts-at : (e : Entry) → texts (set (entriesOf n w) k e)
+  pub texts-at : (e : Entry) → texts (set (firstEntries n w) k e)
       ≡ front (w .text) (total (take k (w .lengths))) (getD (w .lengths) k 0) (total (take n (w .lengths))) (e .text)
   texts-at e =
       let hl : k < length (take n (w .lengths)) = omega (arith, length-take-le n (w .lengths) (fit .lengths)) in
       texts-set (take n (w .lengths)) (take n (w .counts)) (w .text) k e (both n w fit) hl
       ∙ rw (getD-take n (w .lengths) k 0 hk, take-take k n (w .lengths) (omega arith))
 
-  pub length-texts-at : (e : Entry) → length (texts (set (entriesOf n w) k e))
+  pub length-texts-at : (e : Entry) → length (texts (set (firstEntries n w) k e))
       ≡ total (take n (w .lengths)) - getD (w .lengths) k 0 + length (e .text)
   length-texts-at e =
       ap length (texts-at e)
@@ -86,12 +86,12 @@ module _ (n : ℕ) (w : Rooms) (fit : Fit n w) (k : ℕ) (hk : k < n) where
 
   pub put-one : (e : Entry)
       → total (take n (w .lengths)) - getD (w .lengths) k 0 + length (e .text) ≤ length (w .text)
-      → putBack n w (set (entriesOf n w) k e)
+      → putBack n w (set (firstEntries n w) k e)
       ≡ rooms (set (w .lengths) k (length (e .text))) (set (w .counts) k (e .count))
       (splice (w .text) (total (take k (w .lengths))) (getD (w .lengths) k 0) (total (take n (w .lengths))) (e .text))
   unfolding splice
   put-one e room =
-      let es : List Entry = entriesOf n w in
+      let es : List Entry = firstEntries n w in
       let s : ℕ = total (take k (w .lengths)) in
       let o : ℕ = getD (w .lengths) k 0 in
       let u : ℕ = total (take n (w .lengths)) in
@@ -136,7 +136,7 @@ module _ (n : ℕ) (w : Rooms) (fit : Fit n w) (k : ℕ) (hk : k < n) where
       ∙ take-append-drop u ts
 
   -- an entry's text is as long as its length says
-  pub length-at : length (getD (entriesOf n w) k none .text) ≡ getD (w .lengths) k 0
+  pub length-at : length (getD (firstEntries n w) k none .text) ≡ getD (w .lengths) k 0
   length-at =
       let s : ℕ = total (take k (w .lengths)) in
       let o : ℕ = getD (w .lengths) k 0 in
@@ -144,19 +144,19 @@ module _ (n : ℕ) (w : Rooms) (fit : Fit n w) (k : ℕ) (hk : k < n) where
       ap (λ (x : Entry). length (x .text)) (entry-at n w fit k hk) ∙ length-take-le o (drop s (w .text)) (simp length-drop (omega (arith, fit .text)))
 
   -- another count does not change how long the texts are
-  pub length-same : (c : ℕ) → length (texts (set (entriesOf n w) k (record { text = getD (entriesOf n w) k none .text; count = c })))
+  pub length-same : (c : ℕ) → length (texts (set (firstEntries n w) k (record { text = getD (firstEntries n w) k none .text; count = c })))
       ≡ total (take n (w .lengths))
   length-same c =
       omega (
         arith,
         length-at,
         total-in (w .lengths) k n hk (fit .lengths),
-        length-texts-at (record { text = getD (entriesOf n w) k none .text; count = c }),
+        length-texts-at (record { text = getD (firstEntries n w) k none .text; count = c }),
       )
 
   -- the rooms with one entry's count changed: one store to the counts
   pub put-count : (c : ℕ)
-      → putBack n w (set (entriesOf n w) k (record { text = getD (entriesOf n w) k none .text; count = c }))
+      → putBack n w (set (firstEntries n w) k (record { text = getD (firstEntries n w) k none .text; count = c }))
       ≡ rooms (w .lengths) (set (w .counts) k c) (w .text)
   put-count c =
       let s : ℕ = total (take k (w .lengths)) in
@@ -164,7 +164,7 @@ module _ (n : ℕ) (w : Rooms) (fit : Fit n w) (k : ℕ) (hk : k < n) where
       let t : List ℕ = take o (drop s (w .text)) in
       let inside : s + o ≤ total (take n (w .lengths)) = total-in (w .lengths) k n hk (fit .lengths) in
       let lt : length t ≡ o = length-take-le o (drop s (w .text)) (simp length-drop (omega (arith, fit .text))) in
-      ap (λ (x : List ℕ). putBack n w (set (entriesOf n w) k (record { text = x; count = c }))) (ap (λ (x : Entry). x .text) (entry-at n w fit k hk))
+      ap (λ (x : List ℕ). putBack n w (set (firstEntries n w) k (record { text = x; count = c }))) (ap (λ (x : Entry). x .text) (entry-at n w fit k hk))
       ∙ put-one (record { text = t; count = c }) (omega (arith, fit .text))
       ∙ rooms-eq (ap (set (w .lengths) k) lt ∙ set-getD (w .lengths) k 0) refl splice-same
 
@@ -182,24 +182,24 @@ put-snoc : (n : ℕ) (l : List ℕ) (v : ℕ) → n < length l → take n l ++ (
 put-snoc n l v h = append-assoc (take n l) (v ∷ []) (drop (suc n) l) ∙ sym (set-split l n v h)
 
 module _ (n : ℕ) (w : Rooms) (fit : Fit n w) (e : Entry) where
-  pub texts-added : texts (entriesOf n w ++ (e ∷ [])) ≡ take (total (take n (w .lengths))) (w .text) ++ e .text
+  pub texts-added : texts (firstEntries n w ++ (e ∷ [])) ≡ take (total (take n (w .lengths))) (w .text) ++ e .text
   texts-added =
-      texts-append (entriesOf n w) (e ∷ [])
+      texts-append (firstEntries n w) (e ∷ [])
       ∙ ap₂ (λ (x y : List ℕ). x ++ y) (texts-cut (take n (w .lengths)) (take n (w .counts)) (w .text) (both n w fit)) (append-nil (e .text))
 
-  pub length-texts-added : length (texts (entriesOf n w ++ (e ∷ []))) ≡ total (take n (w .lengths)) + length (e .text)
+  pub length-texts-added : length (texts (firstEntries n w ++ (e ∷ []))) ≡ total (take n (w .lengths)) + length (e .text)
   length-texts-added =
       ap length texts-added ∙ length-append (take (total (take n (w .lengths))) (w .text)) (e .text)
       ∙ ap (λ (i : ℕ). i + length (e .text)) (length-take-le (total (take n (w .lengths))) (w .text) (fit .text))
 
   -- the rooms with an entry added: one store to the lengths, one to the counts, and the text written after the used part
   pub put-added : n < length (w .lengths) → n < length (w .counts)
-      → putBack n w (entriesOf n w ++ (e ∷ []))
+      → putBack n w (firstEntries n w ++ (e ∷ []))
       ≡ rooms (set (w .lengths) n (length (e .text))) (set (w .counts) n (e .count))
       (splice (w .text) (total (take n (w .lengths))) 0 (total (take n (w .lengths))) (e .text))
   unfolding splice
   put-added hl hc =
-      let es : List Entry = entriesOf n w in
+      let es : List Entry = firstEntries n w in
       let u : ℕ = total (take n (w .lengths)) in
       let t : List ℕ = e .text in
       let all : List ℕ = texts (es ++ (e ∷ [])) in

@@ -18,7 +18,7 @@ use Rattle.string_ref.specs.Refs.{reference}
 use Rattle.stringpool.specs.Show.{showAnswer, refcountAnswer, orEmpty}
 use Rattle.stringpool.specs.inner.Refs.{placeOf}
 use Rattle.stringpool.specs.inner.Sound.{soundB, judgeOf}
-use Rattle.stringpool.specs.inner.Entries.{Fit, entriesOf, putBack, lengthsOf, countsOf}
+use Rattle.stringpool.specs.inner.Entries.{Fit, firstEntries, putBack, lengthsOf, countsOf}
 use Rattle.stringpool.specs.inner.Drop.{none}
 use Rattle.stringpool.specs.inner.Show.{partAt, countAt}
 use Rattle.stringpool.specs.declared.pool.StringPool.{StringPool}
@@ -104,18 +104,18 @@ module _ (p : StringPool) (w : Rooms) (fit : Fit (p .«num_strings») w) (k : �
   abbrev n : ℕ
   n = p .«num_strings»
 
-  part-same : partAt n (w .lengths) (w .text) k ≡ getD (entriesOf n w) k none .text
+  part-same : partAt n (w .lengths) (w .text) k ≡ getD (firstEntries n w) k none .text
   part-same = go (leb n k) refl
     where
-      go : (b : Bool) → leb n k ≡ b → (if b then [] else take (getD (w .lengths) k 0) (drop (total (take k (w .lengths))) (w .text))) ≡ getD (entriesOf n w) k none .text
-      go true e = sym (ap (λ (x : Entry). x .text) (List·getD-eq-default (entriesOf n w) none (omega (arith, length-entries n w fit, leb-true n k e))))
+      go : (b : Bool) → leb n k ≡ b → (if b then [] else take (getD (w .lengths) k 0) (drop (total (take k (w .lengths))) (w .text))) ≡ getD (firstEntries n w) k none .text
+      go true e = sym (ap (λ (x : Entry). x .text) (List·getD-eq-default (firstEntries n w) none (omega (arith, length-entries n w fit, leb-true n k e))))
       go false e = sym (ap (λ (x : Entry). x .text) (entry-at n w fit k (leb-false n k e)))
 
-  pub count-same : countAt n (w .counts) k ≡ getD (entriesOf n w) k none .count
+  pub count-same : countAt n (w .counts) k ≡ getD (firstEntries n w) k none .count
   count-same = go (leb n k) refl
     where
-      go : (b : Bool) → leb n k ≡ b → (if b then 0 else getD (w .counts) k 0) ≡ getD (entriesOf n w) k none .count
-      go true e = sym (ap (λ (x : Entry). x .count) (List·getD-eq-default (entriesOf n w) none (omega (arith, length-entries n w fit, leb-true n k e))))
+      go : (b : Bool) → leb n k ≡ b → (if b then 0 else getD (w .counts) k 0) ≡ getD (firstEntries n w) k none .count
+      go true e = sym (ap (λ (x : Entry). x .count) (List·getD-eq-default (firstEntries n w) none (omega (arith, length-entries n w fit, leb-true n k e))))
       go false e = sym (ap (λ (x : Entry). x .count) (entry-at n w fit k (leb-false n k e)))
 
 -- a reference's place leads on to the same
@@ -137,10 +137,10 @@ refusal-same r f = go (reference nowhere r)
 -- the answers of the calls; the number comes through a struct as r'
 module _ (p : StringPool) (w : Rooms) (r r' : ℤ) (back : r' ≡ r) where
   abbrev Text : ℕ → List ℕ
-  Text k = getD (entriesOf (p .«num_strings») w) k none .text
+  Text k = getD (firstEntries (p .«num_strings») w) k none .text
 
   abbrev Count : ℕ → ℕ
-  Count k = getD (entriesOf (p .«num_strings») w) k none .count
+  Count k = getD (firstEntries (p .«num_strings») w) k none .count
 
   pub get-refused : (x : Refusal) → judgeOf p w ≡ judged.Refused x → _≡_ {A = List ℕ} [] (orEmpty (showAnswer p w r))
   get-refused x j = ap orEmpty (answer-refused p w x (onReference r (λ k. gives (Text k))) j)

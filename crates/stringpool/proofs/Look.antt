@@ -14,7 +14,7 @@ use Rattle.common.specs.declared.refusal.Refusal.the-variants as why
 use Rattle.pool_entries.specs.Calls.{spotAt, chooseAnswer}
 use Rattle.stringpool.specs.Pool.{onSound}
 use Rattle.stringpool.specs.Take.{firstFreeOrEqual}
-use Rattle.stringpool.specs.inner.Entries.{Rooms, Fit, entriesOf}
+use Rattle.stringpool.specs.inner.Entries.{Rooms, Fit, firstEntries}
 use Rattle.stringpool.specs.inner.Sound.{soundB, judgeOf}
 use Rattle.stringpool.specs.inner.Take.{chosenAt, judgeTake}
 use Rattle.stringpool.specs.inner.Look.{LookedIs}
@@ -113,7 +113,7 @@ module _ (p : StringPool) (w : Rooms) (t : List ℕ) where
   n = p .«num_strings»
 
   abbrev Spot : ℕ × ℕ × ℕ
-  Spot = spotAt n w (firstFreeOrEqual t (entriesOf n w))
+  Spot = spotAt n w (firstFreeOrEqual t (firstEntries n w))
 
   abbrev Sized : Bool → Answer (ℕ × ℕ × ℕ)
   Sized b = if b then refused 22 nowhere else onSound p w (gives Spot)

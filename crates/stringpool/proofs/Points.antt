@@ -10,7 +10,7 @@ use borrow.Author.Tests.{le-leb, lt-leb}
 use Rattle.common.specs.Choice.{if_then_else_, _≤?_}
 use Rattle.common.specs.Answers.{Answer, gives, refused, nowhere, onGiven}
 use Rattle.order.specs.Order.{textFits}
-use Rattle.pool_entries.specs.Sound.{sound}
+use Rattle.pool_entries.specs.Sound.{soundRooms}
 use Rattle.pool_stream.specs.Entries.{entryBytes}
 use Rattle.stringpool.specs.Pool.{Rooms, entriesOf, entryRoom, texts, putBack}
 use Rattle.stringpool.specs.Refs.{referenceTo}
@@ -29,31 +29,31 @@ By p w t k new full last =
     (λ _. gives ((referenceTo k, counting p (length after)), putBack p w after))
 
 pub drop-order : DropOrder
-unfolding sound entryBytes
+unfolding soundRooms entryBytes
 drop-order = (refl, refl, refl, refl, refl)
 
 pub counts-down : CountsDown
-unfolding sound entryBytes
+unfolding soundRooms entryBytes
 counts-down = (refl, refl, refl)
 
 pub free-with-bytes : FreeWithBytes
-unfolding sound entryBytes
+unfolding soundRooms entryBytes
 free-with-bytes = refl
 
 pub free-exactly : FreeExactly
-unfolding sound entryBytes
+unfolding soundRooms entryBytes
 free-exactly = (refl, refl)
 
 pub choice-stays : ChoiceStays
-unfolding sound entryBytes
+unfolding soundRooms entryBytes
 choice-stays = refl
 
 pub count-full : CountFull
-unfolding sound entryBytes
+unfolding soundRooms entryBytes
 count-full = (refl, refl, refl)
 
 pub entry-room : EntryRoom
-unfolding sound entryBytes
+unfolding soundRooms entryBytes
 entry-room = (refl, refl, refl)
 
 pub full-first : FullFirst
@@ -73,25 +73,25 @@ nothing-but-six p w t k h =
     ap (λ (a : Bool). By p w t k a (not (p .«long_string_refs») && 65535 ≤? n) (16777215 ≤? n)) (lt-leb n k h)
 
 pub unsound-first : UnsoundFirst
-unfolding sound entryBytes
+unfolding soundRooms entryBytes
 unsound-first = (refl, refl, refl)
 
 pub unsound-then : UnsoundThen
-unfolding sound entryBytes
+unfolding soundRooms entryBytes
 unsound-then = (refl, refl, refl)
 
 pub unsound-take : UnsoundTake
-unfolding sound entryBytes
+unfolding soundRooms entryBytes
 unsound-take = refl
 
 pub code-page : CodePage
-unfolding sound entryBytes
+unfolding soundRooms entryBytes
 code-page = (refl, refl, refl)
 
 pub marked : Marked
-unfolding sound entryBytes
+unfolding soundRooms entryBytes
 marked = (refl, refl)
 
 pub output-room : OutputRoom
-unfolding sound entryBytes
+unfolding soundRooms entryBytes
 output-room = (refl, refl, refl, refl)

@@ -9,7 +9,7 @@ use lib.ListN.{length, getD}
 use lib.Dec.{ltb, eqb}
 use borrow.Author.Tests.{eq-eqb, ne-eqb, eqb-true, eqb-false, ltb-true, le-leb, lt-leb}
 use Rattle.common.specs.Choice.{if_then_else_}
-use Rattle.stringpool.specs.inner.Entries.{Entry, Rooms, Fit, entriesOf}
+use Rattle.stringpool.specs.inner.Entries.{Entry, Rooms, Fit, firstEntries}
 use Rattle.stringpool.specs.inner.Drop.{none}
 use Rattle.stringpool.specs.Pool.{free}
 use Rattle.stringpool.specs.Take.{sameBytes, equal, firstFreeOrEqual}
@@ -86,7 +86,7 @@ choose-place t (e ∷ es) =
 
 -- the choice by its place
 module _ (n : ℕ) (w : Rooms) (fit : Fit n w) (t : List ℕ) where
-  at-place : (x : Chosen) → In t (entriesOf n w) x → chosenAt n (w .counts) (placeIn (entriesOf n w) x) ≡ x
+  at-place : (x : Chosen) → In t (firstEntries n w) x → chosenAt n (w .counts) (placeIn (firstEntries n w) x) ≡ x
   at-place (Free k) h =
       let hk : k .0 < n = omega (arith, h .0, length-entries n w fit) in
       ap₂ (λ (a b : Bool). (if a then Added else (if b then Free k else Equal k))) (lt-leb n (k .0) hk)
@@ -96,10 +96,10 @@ module _ (n : ℕ) (w : Rooms) (fit : Fit n w) (t : List ℕ) where
       ap₂ (λ (a b : Bool). (if a then Added else (if b then Free k else Equal k))) (lt-leb n (k .0) hk)
       (ne-eqb (getD (w .counts) (k .0) 0) 0 (λ (e : getD (w .counts) (k .0) 0 ≡ 0). omega (arith, h .1, count-at n w fit (k .0) hk)))
   at-place Added h =
-      let k : ℕ = length (entriesOf n w) in
+      let k : ℕ = length (firstEntries n w) in
       ap (λ (a : Bool). (if a then Added else (if eqb (getD (w .counts) k 0) 0 then Free (record { 0 = k }) else Equal (record { 0 = k }))))
       (le-leb n k (omega (arith, length-entries n w fit)))
 
-  pub chosen-at : (k : ℕ) → k ≡ firstFreeOrEqual t (entriesOf n w) → chosenAt n (w .counts) k ≡ choose t (entriesOf n w)
+  pub chosen-at : (k : ℕ) → k ≡ firstFreeOrEqual t (firstEntries n w) → chosenAt n (w .counts) k ≡ choose t (firstEntries n w)
   chosen-at k e =
-      ap (chosenAt n (w .counts)) (e ∙ choose-place t (entriesOf n w)) ∙ at-place (choose t (entriesOf n w)) (choose-in t (entriesOf n w))
+      ap (chosenAt n (w .counts)) (e ∙ choose-place t (firstEntries n w)) ∙ at-place (choose t (firstEntries n w)) (choose-in t (firstEntries n w))

@@ -19,7 +19,7 @@ use Rattle.order.specs.Order.{addFits, textFits}
 use Rattle.order.proofs.Laws.{add-fits}
 use Rattle.stringpool.specs.Pool.{entry, entryRoom}
 use Rattle.stringpool.specs.Take.{firstFreeOrEqual, increased, takenAt, counting, takeAt, takeAnswer, takeOutcome}
-use Rattle.stringpool.specs.inner.Entries.{Entry, Rooms, Fit, entriesOf, texts, putBack}
+use Rattle.stringpool.specs.inner.Entries.{Entry, Rooms, Fit, firstEntries, texts, putBack}
 use Rattle.stringpool.specs.inner.Drop.{none}
 use Rattle.stringpool.specs.inner.Sound.{judgeOf}
 use Rattle.stringpool.specs.inner.Look.{LookedIs}
@@ -49,7 +49,7 @@ module _ (p : StringPool) (w : Rooms) (fit : Fit (p .«num_strings») w) (t : Li
   n = p .«num_strings»
 
   abbrev es : List Entry
-  es = entriesOf n w
+  es = firstEntries n w
 
   -- the public definition, by whether an entry is new, how many there are, what they become and the place
   abbrev TakeBy : Bool → ℕ → List Entry → ℕ → Answer ((ℤ × StringPool) × Rooms)
@@ -178,12 +178,12 @@ module _ (p : StringPool) (entries used room size : ℕ) (w : Rooms) (t : List �
   added e = rw (q .sum) (added-done p w (q .fit) t (e ∙ fitting) (q .small) (q .large))
 
 -- the sizes and the soundness judged, and then the take
-on-take : (p : StringPool) (w : Rooms) (t : List ℕ) → takeAnswer firstFreeOrEqual p w t ≡ byJudge (judgeTake p w t) (takeAt p w t (firstFreeOrEqual t (entriesOf (p .«num_strings») w)))
+on-take : (p : StringPool) (w : Rooms) (t : List ℕ) → takeAnswer firstFreeOrEqual p w t ≡ byJudge (judgeTake p w t) (takeAt p w t (firstFreeOrEqual t (firstEntries (p .«num_strings») w)))
 on-take p w t =
     ap (λ (a : Answer ((ℤ × StringPool) × Rooms)). if 268435455 <? length t then refused 22 nowhere else a) (on-sound p w x) ∙ go (ltb 268435455 (length t))
   where
     x : Answer ((ℤ × StringPool) × Rooms)
-    x = takeAt p w t (firstFreeOrEqual t (entriesOf (p .«num_strings») w))
+    x = takeAt p w t (firstFreeOrEqual t (firstEntries (p .«num_strings») w))
 
     go : (b : Bool) → _≡_ {A = Answer ((ℤ × StringPool) × Rooms)} (if b then refused 22 nowhere else byJudge (judgeOf p w) x) (byJudge (if b then judged.Refused OverSize else judgeOf p w) x)
     go true = refl
@@ -192,19 +192,19 @@ on-take p w t =
 pub take-refused : (p : StringPool) (t : List ℕ) (w : Rooms) (x : Refusal) → judgeTake p w t ≡ judged.Refused x
     → Planned (takeOutcome firstFreeOrEqual p w t) (refusedBy x) (Refused x) w t
 take-refused p t w x e =
-    refusing x (sym (ap (outcome w) (on-take p w t ∙ ap (λ (j : Judged). byJudge j (takeAt p w t (firstFreeOrEqual t (entriesOf (p .«num_strings») w)))) e)))
+    refusing x (sym (ap (outcome w) (on-take p w t ∙ ap (λ (j : Judged). byJudge j (takeAt p w t (firstFreeOrEqual t (firstEntries (p .«num_strings») w)))) e)))
 
 -- the entry chosen is one of the pool's
 module _ (p : StringPool) (w : Rooms) (fit : Fit (p .«num_strings») w) (t : List ℕ) (k : EntryPlace) where
   free-in : Free k ≡ chosenOf p w t → (k .0 < p .«num_strings») × (getD (w .counts) (k .0) 0 ≡ 0)
   free-in e =
-      let h : In t (entriesOf (p .«num_strings») w) (Free k) = subst (In t (entriesOf (p .«num_strings») w)) (sym e) (choose-in t (entriesOf (p .«num_strings») w)) in
+      let h : In t (firstEntries (p .«num_strings») w) (Free k) = subst (In t (firstEntries (p .«num_strings») w)) (sym e) (choose-in t (firstEntries (p .«num_strings») w)) in
       let a : k .0 < p .«num_strings» = omega (arith, h .0, length-entries (p .«num_strings») w fit) in
       (a, sym (count-at (p .«num_strings») w fit (k .0) a) ∙ h .1)
 
   equal-in : Equal k ≡ chosenOf p w t → (k .0 < p .«num_strings») × (0 < getD (w .counts) (k .0) 0) × (getD (w .counts) (k .0) 0 < 65535)
   equal-in e =
-      let h : In t (entriesOf (p .«num_strings») w) (Equal k) = subst (In t (entriesOf (p .«num_strings») w)) (sym e) (choose-in t (entriesOf (p .«num_strings») w)) in
+      let h : In t (firstEntries (p .«num_strings») w) (Equal k) = subst (In t (firstEntries (p .«num_strings») w)) (sym e) (choose-in t (firstEntries (p .«num_strings») w)) in
       let a : k .0 < p .«num_strings» = omega (arith, h .0, length-entries (p .«num_strings») w fit) in
       (a, omega (arith, h .1, count-at (p .«num_strings») w fit (k .0) a), omega (arith, h .2, count-at (p .«num_strings») w fit (k .0) a))
 
@@ -224,10 +224,10 @@ module _ (p : StringPool) (w : Rooms) (t : List ℕ) (u : ℕ) (j : Judged) (x :
       let h = free-in p w (look-known .fit) t k (sym f ∙ l .found u e .0) in
       record { within = h .0; free = h .1; begins = l .found u e .1 k f; long = refl }
 
-  pub look-taken : (k : ℕ) → k ≡ placeIn (entriesOf (p .«num_strings») w) x → (s : Plan) → At p w t k s
+  pub look-taken : (k : ℕ) → k ≡ placeIn (firstEntries (p .«num_strings») w) x → (s : Plan) → At p w t k s
       → Planned (takeOutcome firstFreeOrEqual p w t) (takenBy p s) s w t
   look-taken k f s d =
-      let es : List Entry = entriesOf (p .«num_strings») w in
+      let es : List Entry = firstEntries (p .«num_strings») w in
       record {
         is =
             d .is ∙ ap (λ (i : ℕ). outcome w (takeAt p w t i)) (f ∙ ap (placeIn es) (l .found u e .0) ∙ sym (choose-place t es))
@@ -235,8 +235,8 @@ module _ (p : StringPool) (w : Rooms) (t : List ℕ) (u : ℕ) (j : Judged) (x :
         ready = d .ready;
       }
 
-  pub look-added : x ≡ Added → p .«num_strings» ≡ placeIn (entriesOf (p .«num_strings») w) x
-  look-added f = sym (ap (placeIn (entriesOf (p .«num_strings») w)) f ∙ length-entries (p .«num_strings») w (look-known .fit))
+  pub look-added : x ≡ Added → p .«num_strings» ≡ placeIn (firstEntries (p .«num_strings») w) x
+  look-added f = sym (ap (placeIn (firstEntries (p .«num_strings») w)) f ∙ length-entries (p .«num_strings») w (look-known .fit))
 
 -- the place of an entry that is there, or is added, has a number
 pub numbered : (w : Rooms) (t : List ℕ) (x : Plan) → Ready x w t → Numbered x

@@ -12,7 +12,7 @@ pub use Rattle.pool_entries.specs.Entries.{Entry, entry, Rooms, rooms, cut, ent
 
 -- "The state is the entry count, mark and code page with lent lengths, counts and text": its entries
 abbrev pub entriesOf : StringPool → Rooms → List Entry
-entriesOf p w = entries.entriesOf (p .«num_strings») w
+entriesOf p w = entries.firstEntries (p .«num_strings») w
 
 abbrev pub texts : List Entry → List ℕ
 texts es = joined (map (λ (e : Entry). e .text) es)
@@ -26,8 +26,8 @@ putBack p w es =
 
 -- "A state is sound when .."
 abbrev pub sound : StringPool → Rooms → Bool
-sound p w = state.sound (p .«num_strings») (p .codepage) w
+sound p w = state.soundRooms (p .«num_strings») (p .codepage) w
 
 -- "Order: 22 first, then 24."
 abbrev pub onSound : {A : Type 0} → StringPool → Rooms → Answer A → Answer A
-onSound p w a = state.onSound (p .«num_strings») (p .codepage) w a
+onSound p w a = state.onSoundRooms (p .«num_strings») (p .codepage) w a

@@ -30,6 +30,6 @@ abbrev pub showableAs : Showable → Answer (Unit {0})
 showableAs showable.Yes = gives tt
 showableAs (showable.Refused x) = refusedBy x
 
-abbrev pub countedAs : Counted → Answer ℕ
-countedAs (counted.Is n) = gives n
-countedAs (counted.Refused x) = refusedBy x
+abbrev pub refcountAs : Counted → Answer ℕ
+refcountAs (counted.Is n) = gives n
+refcountAs (counted.Refused x) = refusedBy x

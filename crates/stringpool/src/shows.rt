@@ -17,7 +17,7 @@ ghost use Rattle.common.specs.Answers.{gives, nowhere, refusalOf};
 ghost use Rattle.stringpool.specs.Pool.{rooms};
 ghost use Rattle.stringpool.specs.Refs.{onReference};
 ghost use Rattle.string_ref.specs.Refs.{reference};
-ghost use Rattle.stringpool.specs.Show.{showAnswer, refcountAnswer, orEmpty, showableAs, countedAs};
+ghost use Rattle.stringpool.specs.Show.{showAnswer, refcountAnswer, orEmpty, showableAs, refcountAs};
 ghost use Rattle.stringpool.specs.inner.Show.{partAt, countAt};
 
 pub enum Counted {
@@ -56,7 +56,7 @@ impl StringPool {
 
     // How many references count on a number, 0 past the end.
     pub fn refcount(self, lengths: &[u32], counts: &[u16], text: &[u8], number: i32) -> Counted
-        ensures { λ a. ⌜ countedAs a ≡ refcountAnswer self (rooms (now (lengths .entry)) (now (counts .entry)) (now (text .entry))) number ⌝ }
+        ensures { λ a. ⌜ refcountAs a ≡ refcountAnswer self (rooms (now (lengths .entry)) (now (counts .entry)) (now (text .entry))) number ⌝ }
     {
         let j = judge(self, lengths, counts, text);
         match j {
@@ -97,7 +97,7 @@ fn in_range(number: i32) -> Showable
 // The count of r among n entries, 0 past the end.
 fn count_sound(n: usize, counts: &[u16], r: StringRef) -> Counted
     requires { ⌜ n ≤ length (now counts) ⌝ }
-    ensures { λ a. ⌜ countedAs a ≡ onReference (r .0) (λ k. gives (countAt n (now (counts .entry)) k)) ⌝ }
+    ensures { λ a. ⌜ refcountAs a ≡ onReference (r .0) (λ k. gives (countAt n (now (counts .entry)) k)) ⌝ }
 {
     let Placed::At(place) = place(r) else {
         return Counted::Refused(Refusal::ReferenceRange);

@@ -20,7 +20,7 @@ pub enum Written {
 
 // What the layers answer, as the pool does.
 fn answer(written: little_endian::Written) -> Written
-    ensures { λ r. ⌜ writtenAs r ≡ little.writtenAs written ⌝ }
+    ensures { λ r. ⌜ writtenAs r ≡ little.putAs written ⌝ }
 {
     match written {
         little_endian::Written::Bytes(size) => Written::Bytes(size),

@@ -14,7 +14,7 @@ use Rattle.common.specs.Lists.{total}
 use Rattle.stringpool.specs.Take.{increased, takenAt}
 use Rattle.stringpool.specs.Drop.{lessened}
 use Rattle.stringpool.specs.inner.Sound.{smallB, allSmall}
-use Rattle.stringpool.specs.inner.Entries.{entriesOf, lengthsOf, countsOf, putBack}
+use Rattle.stringpool.specs.inner.Entries.{firstEntries, lengthsOf, countsOf, putBack}
 use Rattle.stringpool.specs.inner.Drop.{none}
 use Rattle.stringpool.specs.declared.pool.StringPool.{StringPool}
 use Rattle.stringpool.proofs.Entries.{both, lengths-cut, counts-cut}
@@ -73,7 +73,7 @@ small-taken t k es h = by-place t es k Small
 pub small-dropped : (es : List Entry) (k : ℕ) → Small es → Small (set es k (lessened (getD es k none)))
 small-dropped es k h = small-set es k (lessened (getD es k none)) (small-lessened (getD es k none)) h
 
-pub small-entries : (p : StringPool) (w : Rooms) → SoundFit p w → Small (entriesOf (p .«num_strings») w)
+pub small-entries : (p : StringPool) (w : Rooms) → SoundFit p w → Small (firstEntries (p .«num_strings») w)
 small-entries p w s =
     let n : ℕ = p .«num_strings» in
     ap₂ allSmall (lengths-cut (take n (w .lengths)) (take n (w .counts)) (w .text) (both n w (s .fit)) (s .fit .text))

@@ -138,8 +138,8 @@ takenTo s x = left (λ (y : ℤ × StringPool). y .1) s (outcome (s .rooms) x)
 abbrev droppedTo : State → Answer (StringPool × Rooms) → State
 droppedTo s x = left (λ (y : StringPool). y) s (outcome (s .rooms) x)
 
-entries-is : (p : StringPool) (m : ℕ) (w : Rooms) (es : List Entry) → m ≡ length es → inner.entriesOf m (putBack p w es) ≡ es
-entries-is p m w es e = ap (inner.entriesOf m) (sym (put-same p w es)) ∙ entries-put (p .«num_strings») m w es e
+entries-is : (p : StringPool) (m : ℕ) (w : Rooms) (es : List Entry) → m ≡ length es → inner.firstEntries m (putBack p w es) ≡ es
+entries-is p m w es e = ap (inner.firstEntries m) (sym (put-same p w es)) ∙ entries-put (p .«num_strings») m w es e
 
 abbrev LegalCall : Call → Type 0
 LegalCall (take-of choose t) = Legal choose

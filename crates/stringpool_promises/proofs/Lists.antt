@@ -7,7 +7,7 @@ use mathlib.Core.List.{List, [], _∷_, _++_, append-assoc}
 use lib.ListN.{length, take, drop, getD, set, replicate, length-map}
 use lib.Seq.{take-at, drop-at}
 use Rattle.common.specs.Lists.{total}
-use Rattle.stringpool.specs.inner.Entries.{Entry, Rooms, cut, entriesOf, texts, lengthsOf, countsOf, putBack}
+use Rattle.stringpool.specs.inner.Entries.{Entry, Rooms, cut, firstEntries, texts, lengthsOf, countsOf, putBack}
 use Rattle.stringpool.specs.inner.Drop.{none}
 use Rattle.stringpool_promises.specs.Promises.{countFor, sumFor}
 
@@ -22,7 +22,7 @@ cut-texts (e ∷ es) rest =
     ∙ ap (λ (r : List Entry). e ∷ r) (cut-texts es rest)
 
 -- the entries of rooms into which entries were put are those
-pub entries-put : (n m : ℕ) (w : Rooms) (es : List Entry) → m ≡ length es → entriesOf m (putBack n w es) ≡ es
+pub entries-put : (n m : ℕ) (w : Rooms) (es : List Entry) → m ≡ length es → firstEntries m (putBack n w es) ≡ es
 entries-put n m w es h =
     let a : take m (lengthsOf es ++ drop (length es) (w .lengths)) ≡ lengthsOf es =
     take-at (lengthsOf es) (drop (length es) (w .lengths)) m (length-map es (λ (e : Entry). length (e .text)) ∙ sym h) in

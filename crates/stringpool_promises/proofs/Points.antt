@@ -1,19 +1,19 @@
 -- The points of specs/Points.antt, by computation.
 use mathlib.Core.Path.{refl}
 use native.Mathlib.Omega.{arith}
-use Rattle.pool_entries.specs.Sound.{sound}
+use Rattle.pool_entries.specs.Sound.{soundRooms}
 use Rattle.stringpool_promises.specs.Points.{Sums, Counts, Shown, PlainStreams}
 
 pub sums : Sums
-unfolding sound
+unfolding soundRooms
 sums = (refl, refl, refl, refl, refl, refl, refl, refl, refl, refl)
 
 pub counts : Counts
-unfolding sound
+unfolding soundRooms
 counts = (refl, refl, refl, refl, refl, refl, refl, refl, refl, refl, refl, refl, refl, refl)
 
 pub shown : Shown
-unfolding sound
+unfolding soundRooms
 shown = (refl, refl, refl)
 
 pub plain-streams : PlainStreams

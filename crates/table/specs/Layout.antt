@@ -75,5 +75,5 @@ abbrev pub laidAs : Laid → Answer (Unit {0})
 laidAs Made = gives tt
 laidAs (Refused x) = refusedBy x
 
-abbrev pub madeAs : TableMade → Answer (Unit {0}) × Table
-madeAs m = (laidAs (m .answer), m .table)
+abbrev pub tableMadeAs : TableMade → Answer (Unit {0}) × Table
+tableMadeAs m = (laidAs (m .answer), m .table)

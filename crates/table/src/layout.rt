@@ -11,7 +11,7 @@ ghost use Prim.Native.Nat.{_<_, _≤_};
 ghost use Rattle.common.specs.Answers.{refusalOf};
 ghost use Rattle.order.specs.Order.{fitsAs};
 ghost use Rattle.column_type.specs.Forms.{formFor};
-ghost use Rattle.table.specs.Layout.{typesOf, soundColumns, noTable, madeAs, bitfieldsOutcome, columnsOutcome};
+ghost use Rattle.table.specs.Layout.{typesOf, soundColumns, noTable, tableMadeAs, bitfieldsOutcome, columnsOutcome};
 ghost use Rattle.table.specs.Rows.{typeAt};
 ghost use Rattle.table.specs.inner.Layout.{Sound, layoutOf};
 
@@ -50,7 +50,7 @@ pub(crate) struct Layout {
 impl Table {
     // The first `count` of the columns.
     pub fn new(columns: [Column; 64], count: usize, long_string_refs: bool) -> TableMade
-        ensures { λ r. ⌜ madeAs r ≡ columnsOutcome columns count «long_string_refs» ⌝ }
+        ensures { λ r. ⌜ tableMadeAs r ≡ columnsOutcome columns count «long_string_refs» ⌝ }
     {
         let table = Table {
             columns,
@@ -69,7 +69,7 @@ impl Table {
 
     // A column for each bitfield.
     pub fn from_bitfields(bits: &[i32], long_string_refs: bool) -> TableMade
-        ensures { λ r. ⌜ madeAs r ≡ bitfieldsOutcome (now (bits .entry)) «long_string_refs» ⌝ }
+        ensures { λ r. ⌜ tableMadeAs r ≡ bitfieldsOutcome (now (bits .entry)) «long_string_refs» ⌝ }
     {
         let mut columns = [Column::build().int16(); 64];
         let count = bits.len();

@@ -6,21 +6,21 @@ use Rattle.value.specs.declared.ValueRef.the-variants.{Null, Int, Str, B
 use Rattle.value.specs.declared.Value.{Value}
 use Rattle.value.specs.declared.Value.the-variants as plain
 
-abbrev pub kindOf : ValueRef → ℕ
-kindOf Null = 0
-kindOf (Int n) = 1
-kindOf (Str s) = 2
-kindOf Binary = 3
+abbrev pub refKind : ValueRef → ℕ
+refKind Null = 0
+refKind (Int n) = 1
+refKind (Str s) = 2
+refKind Binary = 3
 
-abbrev pub numberOf : ValueRef → ℤ
-numberOf Null = pos 0
-numberOf (Int n) = n
-numberOf (Str s) = s .0
-numberOf Binary = pos 0
+abbrev pub refNumber : ValueRef → ℤ
+refNumber Null = pos 0
+refNumber (Int n) = n
+refNumber (Str s) = s .0
+refNumber Binary = pos 0
 
 -- both
 abbrev pub cellAs : ValueRef → ℕ × ℤ
-cellAs v = (kindOf v, numberOf v)
+cellAs v = (refKind v, refNumber v)
 
 -- the same of a value whose text stands beside it: a text has no number
 abbrev pub valueKind : Value → ℕ

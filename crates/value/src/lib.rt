@@ -1,7 +1,7 @@
 // What a cell of a table holds: `ValueRef` on reading, `Value` with its text beside it, and a cell as it is handed over for writing.
 use string_ref::StringRef;
 ghost use mathlib.Core.Path.{_≡_};
-ghost use Rattle.value.specs.Kinds.{kindOf, numberOf};
+ghost use Rattle.value.specs.Kinds.{refKind, refNumber};
 ghost use Rattle.value.specs.Handed.{cellOf};
 
 pub enum ValueRef {
@@ -30,7 +30,7 @@ pub enum Cell {
 
 impl ValueRef {
     pub fn kind(self) -> u8
-        ensures { λ r. ⌜ r ≡ kindOf self ⌝ }
+        ensures { λ r. ⌜ r ≡ refKind self ⌝ }
     {
         match self {
             ValueRef::Null => 0,
@@ -41,7 +41,7 @@ impl ValueRef {
     }
 
     pub fn number(self) -> i32
-        ensures { λ r. ⌜ r ≡ numberOf self ⌝ }
+        ensures { λ r. ⌜ r ≡ refNumber self ⌝ }
     {
         match self {
             ValueRef::Null => 0,

@@ -6,7 +6,7 @@ use lib.ListN.{length, take, drop, getD}
 use Rattle.common.specs.Lists.{total}
 use Rattle.little_endian.specs.Numbers.{numberAt}
 use Rattle.little_endian.specs.Promises.{AreBytes}
-use Rattle.pool_entries.specs.Entries.{Rooms, entriesOf}
+use Rattle.pool_entries.specs.Entries.{Rooms, firstEntries}
 use Rattle.pool_entries.specs.Choose.{firstFreeOrEqual}
 use Rattle.pool_entries.specs.inner.Fit.{Fit}
 use Rattle.pool_entries.specs.inner.Sound.{allSmall}
@@ -49,7 +49,7 @@ pub record PassedBy (ls : List ℕ) (size from to k s : ℕ) : Type 0 where
 
 -- the choice, where the entries before i are passed by
 abbrev pub PassedTo : ℕ → Rooms → List ℕ → ℕ → Type 0
-PassedTo n w t i = firstFreeOrEqual t (entriesOf n w) ≡ i + firstFreeOrEqual t (drop i (entriesOf n w))
+PassedTo n w t i = firstFreeOrEqual t (firstEntries n w) ≡ i + firstFreeOrEqual t (drop i (firstEntries n w))
 
 -- all entries are small where those from i on are
 abbrev pub SmallTo : ℕ → List ℕ → List ℕ → ℕ → Type 0
@@ -65,10 +65,10 @@ pub record ScannedTo (n : ℕ) (w : Rooms) (t : List ℕ) (k s : ℕ) : Type 0 w
 pub record ScanIs (n : ℕ) (w : Rooms) (t : List ℕ) (to k s : ℕ) : Type 0 where
   pub within : k ≤ to
   pub scanned : ScannedTo n w t k s
-  pub chosen : k < to → Fit n w → firstFreeOrEqual t (entriesOf n w) ≡ k
+  pub chosen : k < to → Fit n w → firstFreeOrEqual t (firstEntries n w) ≡ k
 
 -- the first k entries use s bytes and none of them is free or equal; in a pool whose entries fit, k is the choice
 pub record FoundIs (n : ℕ) (w : Rooms) (t : List ℕ) (k s : ℕ) : Type 0 where
   pub within : k ≤ n
   pub scanned : ScannedTo n w t k s
-  pub chosen : Fit n w → firstFreeOrEqual t (entriesOf n w) ≡ k
+  pub chosen : Fit n w → firstFreeOrEqual t (firstEntries n w) ≡ k

@@ -3,7 +3,7 @@ use Prim.Native.Nat.{ℕ, _-_, max}
 use mathlib.Core.List.{List, _++_, map}
 use lib.ListN.{length, take, drop, replicate}
 use Rattle.common.specs.Lists.{total}
-pub use Rattle.pool_entries.specs.Entries.{Entry, Rooms, rooms, cut, entriesOf}
+pub use Rattle.pool_entries.specs.Entries.{Entry, Rooms, rooms, cut, firstEntries}
 pub use Rattle.pool_entries.specs.inner.Fit.{Fit}
 pub use Rattle.stringpool.specs.Pool.{texts}
 

@@ -8,7 +8,7 @@ use lib.Dec.{ltb, eqb}
 use Rattle.common.specs.Lists.{total}
 use Rattle.common.specs.Choice.{_<?_, _≤?_, if_then_else_}
 use Rattle.stringpool.specs.Pool.{Entry, Rooms}
-use Rattle.stringpool.specs.inner.Entries.{Fit, entriesOf}
+use Rattle.stringpool.specs.inner.Entries.{Fit, firstEntries}
 use Rattle.stringpool.specs.Refs.{referenceTo}
 use Rattle.stringpool.specs.Take.{counting}
 use Rattle.stringpool.specs.inner.Sound.{judgeOf}
@@ -55,7 +55,7 @@ abbrev pub judgeTake : StringPool → Rooms → List ℕ → Judged
 judgeTake p w t = (if ltb 268435455 (length t) then judged.Refused OverSize else judgeOf p w)
 
 abbrev pub chosenOf : StringPool → Rooms → List ℕ → Chosen
-chosenOf p w t = choose t (entriesOf (p .«num_strings») w)
+chosenOf p w t = choose t (firstEntries (p .«num_strings») w)
 
 -- what is known of the rooms and the text of a take that was judged, by numbers
 pub record Known (p : StringPool) (w : Rooms) (t : List ℕ) (used room size : ℕ) : Type 0 where

@@ -2,7 +2,7 @@ use mathlib.Core.Path.{ap, _∙_}
 use Prim.Native.Nat.{ℕ}
 use Rattle.common.specs.Answers.{Answer}
 use Rattle.rows.specs.Next.{Next}
-use Rattle.msi_forms.specs.Answers.{handed}
+use Rattle.msi_forms.specs.Answers.{answeredAs}
 use Rattle.msi_forms.specs.Tables.{onTable, stepIn}
 use borrow.Author.Needs.{needs}
 use Rattle.msi.proofs.tables.strandroost_rows_next.Statement.{statement}
@@ -11,7 +11,7 @@ use Rattle.msi.proofs.tables.strandroost_rows_next.Tie as tie
 returns : tie.Need-returns
 returns c =
     let t = c .before .before .before .before .args .table in
-    c .from-step .ensures ∙ ap (λ (x : Answer Next × ℕ). stepIn (handed (onTable t) x)) (rw (c .before .before .table-in .ensures) at (c .before .next-at .ensures))
+    c .from-step .ensures ∙ ap (λ (x : Answer Next × ℕ). stepIn (answeredAs (onTable t) x)) (rw (c .before .before .table-in .ensures) at (c .before .next-at .ensures))
 
 pub strandroost-rows-next-spec : {M : Type 1} → statement M
 strandroost-rows-next-spec =

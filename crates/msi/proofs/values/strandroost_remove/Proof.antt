@@ -8,7 +8,7 @@ use Rattle.stringpool.specs.Pool.{rooms}
 use Rattle.stringpool.specs.declared.pool.StringPool.{StringPool}
 use Rattle.msi_forms.specs.Pools.{stateIn, poolIn}
 use Rattle.value.specs.declared.ValueRef.{ValueRef}
-use Rattle.value.specs.Kinds.{kindOf, numberOf}
+use Rattle.value.specs.Kinds.{refKind, refNumber}
 use Rattle.pool_values.specs.Pooled.{removeAnswer, removeOutcome}
 use Rattle.msi_forms.specs.Values.{valueIn}
 use Rattle.msi.proofs.UnknownKinds.{hands-kind, remove-kept}
@@ -25,8 +25,8 @@ returns c =
     let w = rooms (now (s .lengths)) (now (s .counts)) (now (s .text)) in
     let v = c .before .before .before .before .before .before .before .before .before .before .before .value-in .ensures ∙ ap (valueIn (s .kind)) z-back in
     let p = stateIn (s .pool) in
-    hands-kind poolIn (s .kind) w (removeAnswer (kindOf (valueIn (s .kind) z)) (numberOf (valueIn (s .kind) z)) p w) (remove-kept (s .kind) z p w) (c .from-removed .ensures)
-    (c .before .before .before .before .before .before .before .remove .ensures ∙ ap₂ (λ (x : ValueRef) (p : StringPool). removeOutcome (kindOf x) (numberOf x) p w) v (c .before .before .before .before .before .before .before .before .before .before .before .before .state .ensures))
+    hands-kind poolIn (s .kind) w (removeAnswer (refKind (valueIn (s .kind) z)) (refNumber (valueIn (s .kind) z)) p w) (remove-kept (s .kind) z p w) (c .from-removed .ensures)
+    (c .before .before .before .before .before .before .before .remove .ensures ∙ ap₂ (λ (x : ValueRef) (p : StringPool). removeOutcome (refKind x) (refNumber x) p w) v (c .before .before .before .before .before .before .before .before .before .before .before .before .state .ensures))
 
 pub strandroost-remove-spec : {M : Type 1} → statement M
 strandroost-remove-spec =

@@ -12,7 +12,7 @@ use Rattle.stringpool.specs.Write.{writeAnswer}
 use Rattle.stringpool.specs.declared.pool.StringPool.{StringPool}
 use Rattle.msi_forms.specs.Pools.{stateIn}
 use Rattle.value.specs.declared.ValueRef.{ValueRef}
-use Rattle.value.specs.Kinds.{kindOf, numberOf}
+use Rattle.value.specs.Kinds.{refKind, refNumber}
 use Rattle.pool_values.specs.Pooled.{shownAnswer, textAnswer, shownAs}
 use Rattle.stringpool.specs.Show.{orEmpty}
 use Rattle.msi_forms.specs.Unknown.{onKind}
@@ -31,7 +31,7 @@ Value s = valueIn (s .args .kind) (s .args .number)
 
 -- the text that the value shows, whatever its kind
 abbrev Text : tie.Start → Answer (List ℕ)
-Text s = textAnswer (kindOf (Value s)) (numberOf (Value s)) (stateIn (s .args .pool)) (Lent s)
+Text s = textAnswer (refKind (Value s)) (refNumber (Value s)) (stateIn (s .args .pool)) (Lent s)
 
 value-is : (c : tie.After-value-in) → c .value-in .result ≡ Value (c .before .before .before .before .before .before)
 value-is c =
@@ -39,10 +39,10 @@ value-is c =
     let fits : SFits w32 z = search needs in
     c .value-in .ensures ∙ ap (valueIn (c .before .before .before .before .before .before .args .kind)) (toZ-ofZ w32 z fits)
 
-said : (c : tie.After-to-value) → shownAs (c .to-value .result) ≡ shownAnswer (kindOf (Value (c .before .before .before .before .before .before .before))) (numberOf (Value (c .before .before .before .before .before .before .before))) (stateIn (c .before .before .before .before .before .before .before .args .pool)) (Lent (c .before .before .before .before .before .before .before))
+said : (c : tie.After-to-value) → shownAs (c .to-value .result) ≡ shownAnswer (refKind (Value (c .before .before .before .before .before .before .before))) (refNumber (Value (c .before .before .before .before .before .before .before))) (stateIn (c .before .before .before .before .before .before .before .args .pool)) (Lent (c .before .before .before .before .before .before .before))
 said c =
     c .to-value .ensures
-    ∙ ap₂ (λ (x : ValueRef) (q : StringPool). shownAnswer (kindOf x) (numberOf x) q (Lent (c .before .before .before .before .before .before .before))) (value-is (c .before)) (c .before .before .state .ensures)
+    ∙ ap₂ (λ (x : ValueRef) (q : StringPool). shownAnswer (refKind x) (refNumber x) q (Lent (c .before .before .before .before .before .before .before))) (value-is (c .before)) (c .before .before .state .ensures)
 
 returns : tie.Need-returns
 returns c =
@@ -62,7 +62,7 @@ returns-3 c =
     let s = c .before .before .before .before .before .before .before .before .before .before .before .before .before .before .before .before in
     let known = sym (c .before .before .before .before .before .before .is-unknown .ensures) ∙ c .before .before .before .before .before .if1 .left in
     got-given (Text s) (now (s .args .out)) (given-said (Text s) _ _ (ap shownAs (sym (c .before .before .before .before .before .before .before .enum-told .given .1)) ∙ said (c .before .before .before .before .before .before .before .before .before)))
-    (c .before .before .before .before .to-text .ensures ∙ ap₂ (λ (x : ValueRef) (q : StringPool). orEmpty (textAnswer (kindOf x) (numberOf x) q (Lent s))) (value-is (c .before .before .before .before .before .before .before .before .before .before)) (c .before .before .before .before .before .before .before .before .before .before .before .state .ensures))
+    (c .before .before .before .before .to-text .ensures ∙ ap₂ (λ (x : ValueRef) (q : StringPool). orEmpty (textAnswer (refKind x) (refNumber x) q (Lent s))) (value-is (c .before .before .before .before .before .before .before .before .before .before)) (c .before .before .before .before .before .before .before .before .before .before .before .state .ensures))
     (c .before .before .copied .ensures)
     ∙ ap (λ (a : Answer (List ℕ)). written (now (s .args .out)) (onGiven a (λ t. writeAnswer t (now (s .args .out))))) (kind-known (s .args .kind) (Text s) known)
 

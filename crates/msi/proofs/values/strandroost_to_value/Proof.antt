@@ -7,7 +7,7 @@ use denote.Ref.{now}
 use Rattle.stringpool.specs.Pool.{rooms}
 use Rattle.stringpool.specs.declared.pool.StringPool.{StringPool}
 use Rattle.value.specs.declared.ValueRef.{ValueRef}
-use Rattle.value.specs.Kinds.{kindOf, numberOf}
+use Rattle.value.specs.Kinds.{refKind, refNumber}
 use Rattle.pool_values.specs.Pooled.{shownAnswer}
 use Prim.Native.Nat.{ℕ}
 use Rattle.common.specs.Answers.{Answer, nowhere}
@@ -26,7 +26,7 @@ returns c =
     let z-back : toZ w32 (ofZ w32 z) ≡ z = toZ-ofZ w32 z z-fits in
     let w = rooms (now (s .lengths)) (now (s .counts)) (now (s .text)) in
     let v = c .before .before .value-in .ensures ∙ ap (valueIn (s .kind)) z-back in
-    c .from-shown .ensures ∙ ap (λ (a : Answer (ℕ × ℤ)). cellIn (onKind nowhere (s .kind) a)) (c .before .to-value .ensures ∙ ap₂ (λ (x : ValueRef) (p : StringPool). shownAnswer (kindOf x) (numberOf x) p w) v (c .before .before .before .state .ensures))
+    c .from-shown .ensures ∙ ap (λ (a : Answer (ℕ × ℤ)). cellIn (onKind nowhere (s .kind) a)) (c .before .to-value .ensures ∙ ap₂ (λ (x : ValueRef) (p : StringPool). shownAnswer (refKind x) (refNumber x) p w) v (c .before .before .before .state .ensures))
 
 pub strandroost-to-value-spec : {M : Type 1} → statement M
 strandroost-to-value-spec =

@@ -3,7 +3,7 @@ use Prim.Native.Nat.{ℕ}
 use borrow.Author.Needs.{needs}
 use borrow.Author.Tests.{not-true, not-false}
 use Rattle.common.specs.Answers.{Answer, gives}
-use Rattle.pool_entries.specs.Entries.{Rooms, rooms, entriesOf}
+use Rattle.pool_entries.specs.Entries.{Rooms, rooms, firstEntries}
 use Rattle.pool_entries.specs.Choose.{firstFreeOrEqual}
 use Rattle.pool_entries.specs.Calls.{spotAt}
 use Rattle.pool_entries.proofs.Sound.{fits-few, judge-size, judge-out, judge-unsound, judge-used, judge-sound, judge-fit}
@@ -15,7 +15,7 @@ abbrev W : tie.Start → Rooms
 W s = rooms (s .args .lengths .now) (s .args .counts .now) (s .args .text .now)
 
 abbrev Given : tie.Start → Answer (ℕ × ℕ × ℕ)
-Given s = gives (spotAt (s .args .num-strings) (W s) (firstFreeOrEqual (s .args .new .now) (entriesOf (s .args .num-strings) (W s))))
+Given s = gives (spotAt (s .args .num-strings) (W s) (firstFreeOrEqual (s .args .new .now) (firstEntries (s .args .num-strings) (W s))))
 
 returns : tie.Need-returns
 returns c =

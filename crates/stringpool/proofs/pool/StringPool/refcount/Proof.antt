@@ -7,7 +7,7 @@ use mir.Val.{toZ, ofZ}
 use mir.ValLaws.{toZ-ofZ}
 use Rattle.common.specs.Answers.{gives}
 use Rattle.stringpool.specs.Refs.{onReference}
-use Rattle.stringpool.specs.inner.Entries.{entriesOf}
+use Rattle.stringpool.specs.inner.Entries.{firstEntries}
 use Rattle.stringpool.specs.inner.Drop.{none}
 use Rattle.stringpool.proofs.Sound.{judging}
 use Rattle.stringpool.proofs.House.{answer-refused, count-passed}
@@ -23,7 +23,7 @@ count-sound-requires c κs =
 returns : tie.Need-returns
 returns c =
     let s = c .before .before .before .before .before .before .before in
-    answer-refused (s .args .self) (rooms (s .args .lengths .now) (s .args .counts .now) (s .args .text .now)) _ (onReference (s .args .number) (λ k. gives (getD (entriesOf (s .args .self .«num_strings») (rooms (s .args .lengths .now) (s .args .counts .now) (s .args .text .now))) k none .count))) (sym (c .before .before .before .judge .ensures) ∙ c .before .j .given .1)
+    answer-refused (s .args .self) (rooms (s .args .lengths .now) (s .args .counts .now) (s .args .text .now)) _ (onReference (s .args .number) (λ k. gives (getD (firstEntries (s .args .self .«num_strings») (rooms (s .args .lengths .now) (s .args .counts .now) (s .args .text .now))) k none .count))) (sym (c .before .before .before .judge .ensures) ∙ c .before .j .given .1)
 
 returns-2 : tie.Need-returns-2
 returns-2 c =

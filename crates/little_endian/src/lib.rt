@@ -9,7 +9,7 @@ ghost use Rattle.little_endian.specs.Numbers.{bytesOf, readAnswer, putAs
 // A number read or written has at most four bytes.
 const MAX_WIDTH: usize = 4;
 
-// What `write` answers: how many bytes it wrote, or why none.
+// What a writing of bytes answers, here and in the layers of the pool: how many were written, or why none.
 pub enum Written {
     Bytes(usize),
     Refused(Refusal),

@@ -1,7 +1,6 @@
 -- A call that judges first, by what the judge answers.
 use mathlib.Core.Path.{_≡_, refl, sym, ap, ap₂, _∙_}
 use Prim.Native.Nat.{ℕ, _≤_}
-use native.Mathlib.Omega.{arith}
 use mathlib.Core.Bool.{Bool, true, false, not}
 use lib.ListN.{length, take}
 use lib.Dec.{leb}

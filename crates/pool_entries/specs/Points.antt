@@ -8,7 +8,7 @@ use lib.ListN.{length, take}
 use Rattle.common.specs.Lists.{total}
 use Rattle.common.specs.Sizes.{maxBytes, maxEntries}
 use Rattle.common.specs.Answers.{gives, refused, nowhere}
-use Rattle.pool_entries.specs.Entries.{Entry, entry, Rooms, rooms}
+use Rattle.pool_entries.specs.Entries.{entry, Rooms, rooms}
 use Rattle.pool_entries.specs.Sound.{soundRooms}
 use Rattle.pool_entries.specs.Calls.{judgeAnswer, chooseAnswer}
 use Rattle.pool_entries.specs.Choose.{equal, firstFreeOrEqual}

@@ -5,7 +5,7 @@ use mathlib.Core.List.{List, [], _∷_, map}
 use Prim.Native.Nat.{ℕ}
 use lib.IntN.{pos}
 use Rattle.stringpool.specs.Pool.{rooms}
-use Rattle.stringpool_promises.specs.Promises.{State, Call, Op, takes, drops, asCall, ran, entries, shows, count, tally, sumFor, took, gaveUp, tookRef, gaveUpRef, Plain}
+use Rattle.stringpool_promises.specs.Promises.{State, Call, takes, drops, asCall, ran, entries, shows, count, tally, sumFor, took, gaveUp, tookRef, gaveUpRef, Plain}
 
 -- "Name" twice, free, "" once
 abbrev pub k : State

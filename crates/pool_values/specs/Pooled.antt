@@ -1,4 +1,4 @@
--- Values and the string pool: "create, remove and to_value, thin over the pool's calls, with their refusals"; a text stands beside the value.
+-- Values and the string pool: create, remove and to_value, thin over the pool's calls, with their refusals; a text stands beside the value.
 use Prim.Native.Nat.{ℕ}
 use mathlib.Core.List.{List, []}
 use lib.IntN.{ℤ, pos}

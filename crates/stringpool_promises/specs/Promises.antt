@@ -127,10 +127,10 @@ abbrev pub StaysCounted : ℤ → State → List Call → Type 0
 StaysCounted r s [] = 1 ≤ count s r
 StaysCounted r s (c ∷ cs) = (1 ≤ count s r) × StaysCounted r (after s c) cs
 
--- Demand 3: "Begin with an empty or accepted pool and make any takes and drops, each on the state the last call left, nobody else writing its buffers.
--- For each text, the counts of the entries showing it sum to that sum at the start, plus accepted takes of it, minus accepted drops of references that
--- showed it just before. Each reference's count equals its starting count (0 if new) plus takes that answered it, minus accepted drops of it; while that
--- stays at least 1, it shows the same bytes." What is taken away stands on the left; "while" is from any call on.
+-- Demand 3: "Begin with an empty or accepted pool and make any takes and drops, each on the state the last call left, nobody else writing its buffers."
+-- "For each text, the counts of the entries showing it sum to that sum at the start, plus accepted takes of it, minus accepted drops of references that showed it just before."
+-- "Each reference's count equals its starting count (0 if new) plus takes that answered it, minus accepted drops of it; while that stays at least 1, it shows the same bytes."
+-- What is taken away stands on the left; "while" is from any call on.
 pub record Demand3 (s : State) (cs : List Call) : Type 0 where
   pub text : (t : List ℕ) → sumFor t (entries (ran s cs)) + tally (gaveUp t) s cs ≡ sumFor t (entries s) + tally (took t) s cs
   pub reference : (r : ℤ) → count (ran s cs) r + tally (gaveUpRef r) s cs ≡ count s r + tally (tookRef r) s cs

@@ -15,7 +15,7 @@ use Rattle.table.specs.declared.layout.Table.{Table}
 use Rattle.table.specs.Layout.{onColumns, typesOf}
 use Rattle.table.specs.Rows.{typeAt}
 
--- the cells handed over, "each a kind and a signed 32-bit number"
+-- the cells handed over, "each a kind .. and a signed 32-bit number"
 pub record Cells : Type 0 where
   pub kinds : List ℕ
   pub numbers : List ℤ

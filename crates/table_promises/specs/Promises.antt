@@ -32,9 +32,8 @@ CellReadBack = (t : ColumnType) (long : Bool) (at : Place) (kind : ℕ) (n : ℤ
 
 -- ---- tables; a layout has 64 places
 
--- the customer's sentence, "Tables within the limits, read and rewritten without Binary columns at equal reference width, give back the bytes
--- of their complete rows", with document 02, E6: "Rewriting now also reproduces complete rows with Binary columns, provided every such cell
--- holds 0 or 1"
+-- demand 2: "Tables within the limits, read and rewritten without Binary columns at equal reference width, give back the bytes of their complete rows."
+-- With document 02, E6: "Rewriting now also reproduces complete rows with Binary columns, provided every such cell holds 0 or 1."
 abbrev pub ReadThenWrite : Type 0
 ReadThenWrite = (t : Table) (s : List ℕ) (rows : ℕ) (kinds : List ℕ) (numbers : List ℤ) (out : List ℕ) → length (t .columns) ≡ 64 → AreBytes s
     → ((r c : ℕ) → r < rows → c < t .count → isBinary (typeAt (typesOf t) c) ≡ true → numberAt 2 s (cellStart (typesOf t) (t .«long_string_refs») rows r c) ≤ 1)

@@ -373,9 +373,24 @@ fn above_short() -> LentCase {
     LentCase { kind: "numbers above 65,535", lines: lines.to_vec(), recipe: None }
 }
 
+/// The longest stored name, a table's of 65,535 units, is decoded; one unit more, or a plain one as long, is 22.
+fn longest_name() -> LentCase {
+    let dashes = |count: usize| "002d".repeat(count);
+    let answers = [
+        (format!("dec 4840{}", dashes(65_535)), format!("ok 1 {}", dashes(65_535))),
+        (format!("dec 4840{}", dashes(65_536)), "error 22".into()),
+        (format!("dec {}", dashes(65_536)), "error 22".into()),
+        (format!("enc 1 {}", dashes(65_535)), format!("ok 4840{}", dashes(65_535))),
+        (format!("enc 1 {}", dashes(65_536)), "error 22".into()),
+    ];
+    let lines = answers.map(|(line, answer)| (line, Expect::Is(answer)));
+    LentCase { kind: "the longest name", lines: lines.to_vec(), recipe: None }
+}
+
 pub fn cases(random: &mut Random, times: usize, emit: &mut dyn FnMut(LentCase)) {
     emit(by_document());
     emit(above_short());
+    emit(longest_name());
     // Three texts, the middle one free and still holding a byte; and a long pool without any.
     const POOLS: [&str; 2] = ["load e4040000030002000100000002000100 414243444546", "load e4040080 -"];
     for _ in 0..times {

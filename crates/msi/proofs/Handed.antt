@@ -1,4 +1,4 @@
--- A call's outcome, answeredAs on with its answer as C has it.
+-- A call's outcome, handed on with its answer as C has it.
 use mathlib.Core.Path.{_≡_, ap, _∙_}
 use Rattle.msi_forms.specs.Answers.{answeredAs}
 

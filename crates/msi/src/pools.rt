@@ -1,4 +1,4 @@
-// The string pool. Its state is answeredAs in and, where a call changes it, answeredAs out; its rooms are lent to each call.
+// The string pool. Its state is handed in and, where a call changes it, handed out; its rooms are lent to each call.
 use common::Refusal;
 use msi_forms::answers::Count;
 use msi_forms::answers::Pool;

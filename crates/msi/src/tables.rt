@@ -1,4 +1,4 @@
-// Tables: a layout by its columns or their bitfields, and the calls on it. A layout answeredAs over need not be one that was made: each
+// Tables: a layout by its columns or their bitfields, and the calls on it. A layout handed over need not be one that was made: each
 // call judges it.
 use msi_forms::answers::CellAnswer;
 use msi_forms::answers::Count;
@@ -20,7 +20,7 @@ ghost use Rattle.rows.specs.Next.{nextOutcome};
 ghost use Rattle.msi_forms.specs.Answers.{countIn, answeredAs};
 ghost use Rattle.msi_forms.specs.Tables.{tableIn, onTable, laidIn, newIn, cellIn, stepIn};
 
-// The layout of the columns answeredAs over, judged.
+// The layout of the columns handed over, judged.
 #[no_mangle]
 pub extern "C" fn strandroost_table_new(table: TableParts) -> TableAnswer
     ensures { λ r. ⌜ r ≡ newIn table (columnsOutcome (tableIn table .columns) (tableIn table .count) (tableIn table .«long_string_refs»)) ⌝ }

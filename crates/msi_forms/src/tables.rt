@@ -111,7 +111,7 @@ pub fn from_laid(made: TableMade) -> TableAnswer
     TableAnswer { refused, table }
 }
 
-// The layout that was answeredAs over, or none where it is refused.
+// The layout that was handed over, or none where it is refused.
 pub fn from_new(made: TableMade, table: TableParts) -> TableAnswer
     ensures { λ r. ⌜ r ≡ newIn table (tableMadeAs made) ⌝ }
 {

@@ -16,7 +16,7 @@ use Rattle.pool_entries.specs.inner.Fit.{Fit}
 use Rattle.pool_entries.specs.inner.Sound.{allSmall, sumsB, fitsB}
 use Rattle.pool_entries.proofs.Sound.{sound-same, then-second, fits-few}
 
--- what is known of a soundRooms state
+-- what is known of a sound state
 pub record Passed (n page : ℕ) (w : Rooms) : Type 0 where
   pub fit : Fit n w
   pub few : n ≤ 16777215
@@ -55,7 +55,7 @@ module _ {A W : Type 0} (n page : ℕ) (w : Rooms) (was : W) (a : Answer (A × W
         go false false e = absurd (refused-gives (sym e))
         go false true e = (refl, refl)
 
-    -- a soundRooms state is known to be, and the call goes on
+    -- a sound state is known to be, and the call goes on
     pub call-passed : Passed n page w
     call-passed = sound-passed n page w (tests .1)
 

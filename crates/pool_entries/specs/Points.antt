@@ -15,7 +15,7 @@ use Rattle.pool_entries.specs.Choose.{equal, firstFreeOrEqual}
 
 -- ---- 22, then 24
 
--- "text room at most 268,435,455 bytes": above it 22, whatever the state, so also an unsound one; at it a soundRooms state is judged so
+-- "text room at most 268,435,455 bytes": above it 22, whatever the state, so also an unsound one; at it a sound state is judged so
 abbrev pub SizeFirst : Type 0
 SizeFirst = ((n codepage : ℕ) (w : Rooms) → maxBytes < length (w .text) → judgeAnswer n codepage w ≡ refused 22 nowhere)
     × ((n codepage : ℕ) (w : Rooms) → length (w .text) ≤ maxBytes → soundRooms n codepage w ≡ true → judgeAnswer n codepage w ≡ gives (total (take n (w .lengths))))

@@ -1,4 +1,4 @@
--- When a state is soundRooms: its entry count, its code page and the lent rooms.
+-- When a state is sound: its entry count, its code page and the lent rooms.
 use Prim.Native.Nat.{ℕ}
 use mathlib.Core.Bool.{Bool, not, _&&_, _||_}
 use lib.ListN.{length, take}
@@ -8,7 +8,7 @@ use Rattle.common.specs.Lists.{total}
 use Rattle.common.specs.Answers.{Answer, refused, nowhere}
 use Rattle.pool_entries.specs.Entries.{Entry, Rooms, firstEntries, entryRoom, free, all}
 
--- "A state is soundRooms when entries fit their rooms and number at most 16,777,215, the code page has 31 bits, lengths sum to at
+-- "A state is sound when entries fit their rooms and number at most 16,777,215, the code page has 31 bits, lengths sum to at
 -- most the text room, and an entry with count 0 has at most 65,535 bytes."
 unfoldable pub soundRooms : ℕ → ℕ → Rooms → Bool
 soundRooms n codepage w =

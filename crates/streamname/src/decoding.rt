@@ -82,7 +82,7 @@ fn put_units(units: Unpacked, out: &mut [u16], at: usize) -> usize
     }
 }
 
-// Writes the undone name to the front of `out`, which has room for it, and answers how many units that are.
+// Writes the undone name to the front of `out`, which has room for it, and answers how many units that is.
 pub(crate) fn write_decoded(stored: &[u16], out: &mut [u16]) -> usize
     requires { ⌜ length (decoded (now stored)) ≤ length (now out) ⌝ }
     ensures { λ r. ⌜ Put (decoded (now (stored .entry))) 0 (now (out .entry)) r (now (out .exit)) ⌝ }

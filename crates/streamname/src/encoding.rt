@@ -139,7 +139,7 @@ pub(crate) fn encoded_bound(name: &[u16], is_table: bool, places: usize) -> usiz
     tally_stored(name, is_table).units
 }
 
-// Writes the packed name to the front of `out`, which has room for it, and answers how many units that are.
+// Writes the packed name to the front of `out`, which has room for it, and answers how many units that is.
 pub(crate) fn write_encoded(name: &[u16], out: &mut [u16]) -> usize
     requires { ⌜ length (encoded (now name)) ≤ length (now out) ⌝ }
     ensures { λ r. ⌜ Put (encoded (now (name .entry))) 0 (now (out .entry)) r (now (out .exit)) ⌝ }

@@ -41,7 +41,7 @@ pub enum Validity {
     Refused(Refusal),
 }
 
-// Encodes a stream name into the front of `out`, and answers how many units that are.
+// Encodes a stream name into the front of `out`, and answers how many units that is.
 pub fn encode(name: &[u16], is_table: bool, out: &mut [u16]) -> Encoded
     ensures { λ r. ⌜ (encodedAs r, now (out .exit)) ≡ encodeOutcome (now (name .entry)) «is_table» (now (out .entry)) ⌝ }
 {
@@ -59,7 +59,7 @@ pub fn encode(name: &[u16], is_table: bool, out: &mut [u16]) -> Encoded
     Encoded::Units(write_encoded(name, out))
 }
 
-// Decodes a stream name into the front of `out`, and answers how many units that are and whether it is a table's.
+// Decodes a stream name into the front of `out`, and answers how many units that is and whether it is a table's.
 pub fn decode(stored: &[u16], out: &mut [u16]) -> Decoded
     ensures { λ r. ⌜ (decodedAs r, now (out .exit)) ≡ decodeOutcome (now (stored .entry)) (now (out .entry)) ⌝ }
 {

@@ -13,7 +13,7 @@ use Rattle.stringpool.specs.inner.Entries.{Entry, Rooms, Fit, firstEntri
 use Rattle.stringpool.specs.inner.Drop.{none}
 use Rattle.stringpool.specs.Pool.{free}
 use Rattle.stringpool.specs.Take.{sameBytes, equal, firstFreeOrEqual}
-use Rattle.stringpool.specs.inner.Take.{equalB, shift, choose, chosenAt, placeIn}
+use Rattle.stringpool.specs.inner.Take.{equalB, shift, choose, chosenAt, chosenPlace}
 use Rattle.stringpool.specs.declared.choice.Chosen.{Chosen}
 use Rattle.stringpool.specs.declared.choice.Chosen.the-variants.{Free, Equal, Added}
 pub use Rattle.pool_entries.proofs.Bytes.{same-eq}
@@ -57,7 +57,7 @@ choose-in t (e ∷ es) = go (eqb (e .count) 0) (equalB (e .count) (e .text) t) r
 
 -- ---- the place chosen
 
-place-next : (e : Entry) (es : List Entry) (x : Chosen) → placeIn es x + 1 ≡ placeIn (e ∷ es) (shift 1 x)
+place-next : (e : Entry) (es : List Entry) (x : Chosen) → chosenPlace es x + 1 ≡ chosenPlace (e ∷ es) (shift 1 x)
 place-next e es (Free k) = omega arith
 place-next e es (Equal k) = omega arith
 place-next e es Added = omega arith
@@ -71,22 +71,22 @@ equal-same t e = go (sameBytes (e .text) t) (ltb (e .count) 65535)
     go false true = refl
     go false false = refl
 
-pub choose-place : (t : List ℕ) (es : List Entry) → firstFreeOrEqual t es ≡ placeIn es (choose t es)
+pub choose-place : (t : List ℕ) (es : List Entry) → firstFreeOrEqual t es ≡ chosenPlace es (choose t es)
 choose-place t [] = refl
 choose-place t (e ∷ es) =
     ap (λ (b : Bool). if free e || b then 0 else firstFreeOrEqual t es + 1) (equal-same t e)
     ∙ go (free e) (equalB (e .count) (e .text) t) (choose-place t es)
   where
-    go : (a b : Bool) → firstFreeOrEqual t es ≡ placeIn es (choose t es)
+    go : (a b : Bool) → firstFreeOrEqual t es ≡ chosenPlace es (choose t es)
         → (if a || b then 0 else firstFreeOrEqual t es + 1)
-        ≡ placeIn (e ∷ es) (if a then Free (record { 0 = 0 }) else (if b then Equal (record { 0 = 0 }) else shift 1 (choose t es)))
+        ≡ chosenPlace (e ∷ es) (if a then Free (record { 0 = 0 }) else (if b then Equal (record { 0 = 0 }) else shift 1 (choose t es)))
     go true b h = refl
     go false true h = refl
     go false false h = ap (λ (i : ℕ). i + 1) h ∙ place-next e es (choose t es)
 
 -- the choice by its place
 module _ (n : ℕ) (w : Rooms) (fit : Fit n w) (t : List ℕ) where
-  at-place : (x : Chosen) → In t (firstEntries n w) x → chosenAt n (w .counts) (placeIn (firstEntries n w) x) ≡ x
+  at-place : (x : Chosen) → In t (firstEntries n w) x → chosenAt n (w .counts) (chosenPlace (firstEntries n w) x) ≡ x
   at-place (Free k) h =
       let hk : k .0 < n = omega (arith, h .0, length-entries n w fit) in
       ap₂ (λ (a b : Bool). (if a then Added else (if b then Free k else Equal k))) (lt-leb n (k .0) hk)

@@ -24,7 +24,7 @@ use Rattle.stringpool.specs.inner.Drop.{none}
 use Rattle.stringpool.specs.inner.Sound.{judgeOf}
 use Rattle.stringpool.specs.inner.Look.{LookedIs}
 use Rattle.stringpool.specs.inner.Plan.{carried, Ready, Planned}
-use Rattle.stringpool.specs.inner.Take.{placeIn, judgeTake, chosenOf, Known, FreeAt, holdingAt, takenBy, Numbered}
+use Rattle.stringpool.specs.inner.Take.{chosenPlace, judgeTake, chosenOf, Known, FreeAt, holdingAt, takenBy, Numbered}
 use Rattle.stringpool.specs.declared.pool.StringPool.{StringPool}
 use Rattle.stringpool.specs.declared.refs.EntryPlace.{EntryPlace}
 use Rattle.stringpool.specs.declared.choice.Chosen.{Chosen}
@@ -224,19 +224,19 @@ module _ (p : StringPool) (w : Rooms) (t : List ℕ) (u : ℕ) (j : Judged) (x :
       let h = free-in p w (look-known .fit) t k (sym f ∙ l .found u e .0) in
       record { within = h .0; free = h .1; begins = l .found u e .1 k f; long = refl }
 
-  pub look-taken : (k : ℕ) → k ≡ placeIn (firstEntries (p .«num_strings») w) x → (s : Plan) → At p w t k s
+  pub look-taken : (k : ℕ) → k ≡ chosenPlace (firstEntries (p .«num_strings») w) x → (s : Plan) → At p w t k s
       → Planned (takeOutcome firstFreeOrEqual p w t) (takenBy p s) s w t
   look-taken k f s d =
       let es : List Entry = firstEntries (p .«num_strings») w in
       record {
         is =
-            d .is ∙ ap (λ (i : ℕ). outcome w (takeAt p w t i)) (f ∙ ap (placeIn es) (l .found u e .0) ∙ sym (choose-place t es))
+            d .is ∙ ap (λ (i : ℕ). outcome w (takeAt p w t i)) (f ∙ ap (chosenPlace es) (l .found u e .0) ∙ sym (choose-place t es))
             ∙ sym (ap (outcome w) (on-take p w t ∙ ap (λ (y : Judged). byJudge y (takeAt p w t (firstFreeOrEqual t es))) (sym (l .answer) ∙ e)));
         ready = d .ready;
       }
 
-  pub look-added : x ≡ Added → p .«num_strings» ≡ placeIn (firstEntries (p .«num_strings») w) x
-  look-added f = sym (ap (placeIn (firstEntries (p .«num_strings») w)) f ∙ length-entries (p .«num_strings») w (look-known .fit))
+  pub look-added : x ≡ Added → p .«num_strings» ≡ chosenPlace (firstEntries (p .«num_strings») w) x
+  look-added f = sym (ap (chosenPlace (firstEntries (p .«num_strings») w)) f ∙ length-entries (p .«num_strings») w (look-known .fit))
 
 -- the place of an entry that is there, or is added, has a number
 pub numbered : (w : Rooms) (t : List ℕ) (x : Plan) → Ready x w t → Numbered x

@@ -29,7 +29,7 @@ pub enum CellRead {
     Refused(Refusal),
 }
 
-// How many rows are read together: their cells fit into the nearest memory of a processor.
+// How many rows are read together: their cells fit into the L1 cache of a processor.
 const NEAR: usize = 1024;
 
 // Some rows of a table, from `first` on.

@@ -45,10 +45,10 @@ abbrev pub chosenAt : ℕ → List ℕ → ℕ → Chosen
 chosenAt n cs k = (if n ≤? k then Added else (if eqb (getD cs k 0) 0 then Free (record { 0 = k }) else Equal (record { 0 = k })))
 
 -- the place that is chosen
-abbrev pub placeIn : List Entry → Chosen → ℕ
-placeIn es (Free k) = k .0
-placeIn es (Equal k) = k .0
-placeIn es Added = length es
+abbrev pub chosenPlace : List Entry → Chosen → ℕ
+chosenPlace es (Free k) = k .0
+chosenPlace es (Equal k) = k .0
+chosenPlace es Added = length es
 
 -- the sizes of the text and of the text room, then soundness
 abbrev pub judgeTake : StringPool → Rooms → List ℕ → Judged

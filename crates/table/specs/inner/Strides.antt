@@ -19,8 +19,8 @@ abbrev pub formWidth : CellForm → ℕ
 formWidth f = width (typeIn f) (longIn f)
 
 -- where the cell of a row stands among those of all
-abbrev pub placeIn : Stride → ℕ → ℕ
-placeIn run r = r * run .step + run .column
+abbrev pub cellPlace : Stride → ℕ → ℕ
+cellPlace run r = r * run .step + run .column
 
 -- as many cells as the rows and columns say
 pub record Handed (kinds numbers : ℕ) (run : Stride) : Type 0 where
@@ -34,7 +34,7 @@ pub record Handed (kinds numbers : ℕ) (run : Stride) : Type 0 where
 
 -- what the cell of a row stores, or why it cannot be stored
 abbrev pub cellNumber : CellForm → List ℕ → List ℤ → Stride → ℕ → Answer ℕ
-cellNumber f kinds numbers run r = stored (typeIn f) (longIn f) (cell r (run .column)) (getD kinds (placeIn run r) 0) (getD numbers (placeIn run r) (pos 0))
+cellNumber f kinds numbers run r = stored (typeIn f) (longIn f) (cell r (run .column)) (getD kinds (cellPlace run r) 0) (getD numbers (cellPlace run r) (pos 0))
 
 -- its bytes
 abbrev pub formBytes : CellForm → List ℕ → List ℤ → Stride → ℕ → Answer (List ℕ)

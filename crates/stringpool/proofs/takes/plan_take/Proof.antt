@@ -3,7 +3,7 @@ use native.Mathlib.Omega.{arith}
 use Rattle.common.proofs.Sums.{total-in}
 use Rattle.stringpool.specs.Pool.{rooms}
 use Rattle.stringpool.specs.inner.Entries.{firstEntries}
-use Rattle.stringpool.specs.inner.Take.{placeIn}
+use Rattle.stringpool.specs.inner.Take.{chosenPlace}
 use Rattle.stringpool.proofs.Taking.{take-refused, equal-done, look-known, look-equal, look-free, look-taken, look-added}
 use borrow.Author.Needs.{needs}
 use Rattle.stringpool.proofs.takes.plan_take.Statement.{statement}
@@ -67,14 +67,14 @@ returns-2 c =
     let s = c .before .before .before .before .before .before .before .before .before .before .before .before in
     let w = rooms (s .args .lengths .now) (s .args .counts .now) (s .args .text .now) in
     let h = look-equal (s .args .p) w (s .args .new .now) _ _ _ _ (c .before .before .before .before .before .before .before .look .ensures) (c .before .before .before .before .before .judged2 .given .1) _ (c .before .before .chosen .given .1) in
-    look-taken (s .args .p) w (s .args .new .now) _ _ _ _ (c .before .before .before .before .before .before .before .look .ensures) (c .before .before .before .before .before .judged2 .given .1) _ (sym (ap (placeIn (firstEntries (s .args .p .«num_strings») w)) (c .before .before .chosen .given .1))) _
+    look-taken (s .args .p) w (s .args .new .now) _ _ _ _ (c .before .before .before .before .before .before .before .look .ensures) (c .before .before .before .before .before .judged2 .given .1) _ (sym (ap (chosenPlace (firstEntries (s .args .p .«num_strings») w)) (c .before .before .chosen .given .1))) _
     (equal-done (s .args .p) w (look-known (s .args .p) w (s .args .new .now) _ _ _ _ (c .before .before .before .before .before .before .before .look .ensures) (c .before .before .before .before .before .judged2 .given .1) .fit) (s .args .new .now) _ (h .0) (look-known (s .args .p) w (s .args .new .now) _ _ _ _ (c .before .before .before .before .before .before .before .look .ensures) (c .before .before .before .before .before .judged2 .given .1) .few) (h .1) _ (omega arith))
 
 returns-3 : tie.Need-returns-3
 returns-3 c =
     let s = c .before .before .before .before .before .before .before .before .before .before .before .before .before in
     let w = rooms (s .args .lengths .now) (s .args .counts .now) (s .args .text .now) in
-    look-taken (s .args .p) w (s .args .new .now) _ _ _ _ (c .before .before .before .before .before .before .before .before .look .ensures) (c .before .before .before .before .before .before .judged2 .given .1) _ (sym (ap (placeIn (firstEntries (s .args .p .«num_strings») w)) (c .before .before .before .chosen2 .given .1))) _
+    look-taken (s .args .p) w (s .args .new .now) _ _ _ _ (c .before .before .before .before .before .before .before .before .look .ensures) (c .before .before .before .before .before .before .judged2 .given .1) _ (sym (ap (chosenPlace (firstEntries (s .args .p .«num_strings») w)) (c .before .before .before .chosen2 .given .1))) _
     (c .put-free .ensures w (s .args .new .now) (look-known (s .args .p) w (s .args .new .now) _ _ _ _ (c .before .before .before .before .before .before .before .before .look .ensures) (c .before .before .before .before .before .before .judged2 .given .1)) (look-free (s .args .p) w (s .args .new .now) _ _ _ _ (c .before .before .before .before .before .before .before .before .look .ensures) (c .before .before .before .before .before .before .judged2 .given .1) _ (c .before .before .before .chosen2 .given .1)))
 
 returns-4 : tie.Need-returns-4

@@ -6,7 +6,7 @@ use mathlib.Core.List.{List, [], _∷_}
 use lib.IntN.{pos}
 use lib.ListN.{length}
 use Rattle.common.specs.Sizes.{maxColumns}
-use Rattle.common.specs.Answers.{Answer, gives, refused, nowhere, column}
+use Rattle.common.specs.Answers.{Answer, gives, refused, nowhere, column, refusalOf}
 use Rattle.stringpool.specs.declared.pool.StringPool.{StringPool}
 use Rattle.stringpool.specs.Pool.{Rooms, rooms}
 use Rattle.pool_values.specs.Points.{OnState}
@@ -63,7 +63,7 @@ judged n columns =
 abbrev pub FirstBad : Type 0
 FirstBad =
     (judged 2 (typed 4 0 ∷ typed 2 256 ∷ []) ≡ refused 16 (column 0)) × (judged 2 (typed 2 256 ∷ typed 4 0 ∷ []) ≡ refused 19 (column 0))
-    × (judged 2 (typed 0 0 ∷ typed 4294967295 0 ∷ []) ≡ refused 16 (column 1)) × (judged 1 (typed 0 0 ∷ typed 4 0 ∷ []) ≡ judged 1 (typed 0 0 ∷ []))
+    × (judged 2 (typed 0 0 ∷ typed 4294967295 0 ∷ []) ≡ refused 16 (column 1)) × (refusalOf (judged 1 (typed 0 0 ∷ typed 4 0 ∷ [])) ≡ gives tt)
 
 -- "20" before them: of 65 columns, the first of an unknown type
 abbrev pub TwentyFirst : Type 0

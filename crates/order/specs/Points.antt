@@ -44,7 +44,7 @@ DataShort = Passes (loadFits 1 8 1 8 8) × Refuses 5 (loadFits 1 8 1 7 8)
 abbrev pub TextRoom : Type 0
 TextRoom = Refuses 6 (loadFits 1 8 1 8 7) × Passes (textFits 8 8) × Refuses 6 (textFits 8 7) × Passes (addFits false 0 1 8 8) × Refuses 6 (addFits false 0 1 8 7)
 
--- "Load: 1, 2, 3, 4, 5, 6": with the faults of all from 3 on, from 4 on, from 5 on
+-- "Load: 1, 2, 3, 4, 5, 6", of which numbers alone decide 3 to 6: with the faults of all from 3 on, from 4 on, from 5 on
 abbrev pub LoadOrder : Type 0
 LoadOrder = Refuses 3 (loadFits 16777216 1 0 0 0) × Refuses 4 (loadFits 1 1 0 0 0) × Refuses 5 (loadFits 1 1 1 0 0) × Refuses 6 (loadFits 1 1 1 1 0)
 

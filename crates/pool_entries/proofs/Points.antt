@@ -13,7 +13,7 @@ use Rattle.pool_entries.specs.Entries.{Entry, rooms, firstEntries, entry
 use Rattle.pool_entries.specs.Sound.{soundRooms}
 use Rattle.pool_entries.specs.inner.Sound.{smallB, fitsB}
 use Rattle.pool_entries.proofs.Sound.{sound-same, judge-size}
-use Rattle.pool_entries.specs.Points.{SizeFirst, TextFirst, EntriesFit, TooMany, CodePage, LengthsSum, FreeBytes, CountsUp, FirstOfThem}
+use Rattle.pool_entries.specs.Points.{AsMany, TextAtSize, SizeFirst, TextFirst, EntriesFit, TooMany, CodePage, LengthsSum, FreeBytes, CountsUp, FirstOfThem}
 
 and-false : (a : Bool) → (a && false) ≡ false
 and-false true = refl
@@ -69,3 +69,17 @@ counts-up = (refl, refl, refl, refl)
 pub first-of-them : FirstOfThem
 unfolding soundRooms
 first-of-them = (refl, refl, refl, refl, refl)
+
+and-true : (a : Bool) → (a && true) ≡ a
+and-true true = refl
+and-true false = refl
+
+pub as-many : AsMany
+unfolding soundRooms
+as-many n page w h =
+    let small : Bool = all (λ (e : Entry). not (free e) || length (e .text) ≤? 65535) (firstEntries n w) in
+    ap (λ (b : Bool). n ≤? entryRoom w && b && page ≤? 2147483647 && total (take n (w .lengths)) ≤? length (w .text) && small) (le-leb n 16777215 h)
+    ∙ ap (λ (b : Bool). b && page ≤? 2147483647 && total (take n (w .lengths)) ≤? length (w .text) && small) (and-true (n ≤? entryRoom w))
+
+pub text-at-size : TextAtSize
+text-at-size n page w t h = simp (le-ltb 268435455 (length t) h)

@@ -6,11 +6,13 @@ use mathlib.Core.List.{List, [], _∷_}
 use Prim.Native.Nat.{ℕ, _≤_, _<_}
 use lib.ListN.{length, take}
 use Rattle.common.specs.Lists.{total}
-use Rattle.common.specs.Sizes.{maxBytes, maxEntries}
+use Rattle.common.specs.Sizes.{maxBytes, maxEntries, maxCodepage}
 use Rattle.common.specs.Answers.{gives, refused, nowhere}
-use Rattle.pool_entries.specs.Entries.{entry, Rooms, rooms}
-use Rattle.pool_entries.specs.Sound.{soundRooms}
-use Rattle.pool_entries.specs.Calls.{judgeAnswer, chooseAnswer}
+use Rattle.common.specs.Choice.{_≤?_}
+use mathlib.Core.Bool.{not, _||_, _&&_}
+use Rattle.pool_entries.specs.Entries.{Entry, entry, Rooms, rooms, entryRoom, free, all, firstEntries}
+use Rattle.pool_entries.specs.Sound.{soundRooms, onSoundRooms}
+use Rattle.pool_entries.specs.Calls.{judgeAnswer, chooseAnswer, spotAt}
 use Rattle.pool_entries.specs.Choose.{equal, firstFreeOrEqual}
 
 -- ---- 22, then 24
@@ -65,3 +67,15 @@ FirstOfThem = (firstFreeOrEqual (65 ∷ []) (entry (66 ∷ []) 1 ∷ entry [] 0 
     × (firstFreeOrEqual (65 ∷ []) (entry (65 ∷ []) 65535 ∷ entry (65 ∷ []) 65534 ∷ []) ≡ 1)
     × (firstFreeOrEqual (65 ∷ []) (entry (66 ∷ []) 0 ∷ []) ≡ 0)
     × (firstFreeOrEqual (65 ∷ []) (entry (65 ∷ []) 65535 ∷ []) ≡ 1)
+
+-- "number at most 16,777,215": so many are judged by the other conditions alone
+abbrev pub AsMany : Type 0
+AsMany = (n codepage : ℕ) (w : Rooms) → n ≤ maxEntries
+    → soundRooms n codepage w
+    ≡ (n ≤? entryRoom w && codepage ≤? maxCodepage && total (take n (w .lengths)) ≤? length (w .text)
+    && all (λ (e : Entry). not (free e) || length (e .text) ≤? 65535) (firstEntries n w))
+
+-- "texts handed in, at most 268,435,455 bytes": one of that size is looked for in a sound state
+abbrev pub TextAtSize : Type 0
+TextAtSize = (n codepage : ℕ) (w : Rooms) (t : List ℕ) → length t ≤ maxBytes
+    → chooseAnswer n codepage w t ≡ onSoundRooms n codepage w (gives (spotAt n w (firstFreeOrEqual t (firstEntries n w))))

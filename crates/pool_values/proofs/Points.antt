@@ -7,4 +7,4 @@ size-first = (λ p w new e. rw e, λ p w new e. rw e, λ p l c text e. rw e, λ 
 
 pub judged-too : JudgedToo
 judged-too =
-    (λ p l c s. rw s, λ p l c s. rw s, λ p l c s. rw s, λ p l c s. rw s, λ p l c s. rw s, λ p l c s. rw s, λ p l c s. rw s, λ p l c s. rw s, λ p l c s. rw s)
+    (λ p l c s. rw s, λ p l c s. rw s, λ p l c s. rw s, λ p l c s. rw s, λ p l c s. rw s, λ p l c s. rw s, λ p l c s. rw s, λ p l c s. rw s, λ p l c s. rw s, λ p l c s. rw s, λ p l c s. rw s, λ p l c s. rw s)

@@ -24,7 +24,8 @@ SizeFirst =
     × ((p : StringPool) (lengths counts text : List ℕ) → length text ≡ 268435456 → removeAnswer 0 (pos 0) p (rooms lengths counts text) ≡ refused 22 nowhere)
     × ((new : List ℕ) → length new ≡ 268435455 → OnState true (λ p w. createAnswer 0 (pos 0) new p w ≡ gives (((0, pos 0), p), w)))
 
--- 24 next, for every value: an unsound state is refused though nothing would be taken, dropped or shown; a sound one is left as it is
+-- 24 next, for every value: an unsound state is refused though nothing would be taken, dropped or shown, and before the 8 of a reference of 0;
+-- a sound one is left as it is
 abbrev pub JudgedToo : Type 0
 JudgedToo =
     OnState false (λ p w. createAnswer 1 (pos 7) [] p w ≡ refused 24 nowhere)
@@ -32,6 +33,9 @@ JudgedToo =
     × OnState false (λ p w. removeAnswer 1 (pos 7) p w ≡ refused 24 nowhere)
     × OnState false (λ p w. shownAnswer 1 (pos 7) p w ≡ refused 24 nowhere)
     × OnState false (λ p w. textAnswer 1 (pos 7) p w ≡ refused 24 nowhere)
+    × OnState false (λ p w. removeAnswer 2 (pos 0) p w ≡ refused 24 nowhere)
+    × OnState false (λ p w. shownAnswer 2 (pos 0) p w ≡ refused 24 nowhere)
+    × OnState false (λ p w. textAnswer 2 (pos 0) p w ≡ refused 24 nowhere)
     × OnState true (λ p w. createAnswer 1 (pos 7) [] p w ≡ gives (((1, pos 7), p), w))
     × OnState true (λ p w. removeAnswer 1 (pos 7) p w ≡ gives (p, w))
     × OnState true (λ p w. shownAnswer 1 (pos 7) p w ≡ gives (1, pos 7))

@@ -4,7 +4,7 @@ use native.Mathlib.Omega.{arith}
 use lib.Dec.{lit≤}
 use Rattle.streamname.specs.Letters.{letters}
 use Rattle.streamname.specs.Names.{encoded, undone, decoded}
-use Rattle.streamname.specs.Points.{Greedy, LoneLetters, Undone, OnePrefix, CodedBounds, EncodeRoom, DecodeRoom, NameSize, StoredLimit, EmptyName, ThirtyOne, FourCharacters, CodedUnits, PrefixUnit, AnyPlace}
+use Rattle.streamname.specs.Points.{Greedy, LoneLetters, Undone, OnePrefix, CodedBounds, ComesBack, EncodeRoom, DecodeRoom, NameSize, StoredLimit, EmptyName, ThirtyOne, FourCharacters, CodedUnits, PrefixUnit, AnyPlace}
 
 pub greedy-points : Greedy
 unfolding letters encoded
@@ -24,6 +24,10 @@ one-prefix = (refl, refl)
 
 pub coded-bounds : CodedBounds
 coded-bounds = (λ p. omega arith, (lit≤ tt, lit≤ tt), (lit≤ tt, lit≤ tt), λ p. omega arith)
+
+pub comes-back : ComesBack
+unfolding letters encoded undone decoded
+comes-back = (refl, refl, refl, refl, refl, refl)
 
 pub encode-room : EncodeRoom
 unfolding letters encoded

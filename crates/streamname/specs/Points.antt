@@ -5,7 +5,7 @@ use mathlib.Core.List.{List, [], _∷_}
 use Prim.Native.Nat.{ℕ}
 use lib.ListN.{replicate}
 use Rattle.common.specs.Answers.{gives, refused, nowhere}
-use Rattle.streamname.specs.Names.{encodedName, decodedName}
+use Rattle.streamname.specs.Names.{encodedName, decodedName, isTable}
 use Rattle.streamname.specs.Calls.{encodeOutcome, decodeOutcome, validAnswer}
 use Rattle.streamname.specs.Promises.{Coded}
 
@@ -45,6 +45,13 @@ OnePrefix = (decodeOutcome (0x4840 ∷ 0x4840 ∷ []) (9 ∷ 9 ∷ []) ≡ (give
 -- "exactly when no unit lies in 0x3800-0x483F and a plain name does not begin with 0x4840": both ends lie there and their neighbours do not
 abbrev pub CodedBounds : Type 0
 CodedBounds = (¬ Coded 0x37FF) × Coded 0x3800 × Coded 0x483F × (¬ Coded 0x4840)
+
+-- so what comes back of such a name: itself, two letters, one letter; 0x4840 inside a name, and in front of a plain one, which is taken for a table's
+abbrev pub ComesBack : Type 0
+ComesBack =
+    (decodedName (encodedName (0x37FF ∷ []) false) ≡ 0x37FF ∷ []) × (decodedName (encodedName (0x3800 ∷ []) false) ≡ 0x30 ∷ 0x30 ∷ [])
+    × (decodedName (encodedName (0x483F ∷ []) false) ≡ 0x5F ∷ []) × (decodedName (encodedName (0x41 ∷ 0x4840 ∷ []) false) ≡ 0x41 ∷ 0x4840 ∷ [])
+    × (isTable (encodedName (0x4840 ∷ []) false) ≡ true) × (isTable (encodedName (0x41 ∷ []) false) ≡ false)
 
 -- ---- refusals
 

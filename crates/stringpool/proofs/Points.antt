@@ -6,7 +6,7 @@ use mathlib.Core.Bool.{Bool, true, false, not, _&&_}
 use mathlib.Core.List.{List}
 use lib.ListN.{length}
 use lib.IntN.{ℤ}
-use borrow.Author.Tests.{le-leb, lt-leb}
+use borrow.Author.Tests.{le-leb, lt-leb, lt-ltb}
 use Rattle.common.specs.Choice.{if_then_else_, _≤?_}
 use Rattle.common.specs.Answers.{Answer, gives, refused, nowhere, onGiven}
 use Rattle.order.specs.Order.{textFits}
@@ -16,7 +16,7 @@ use Rattle.stringpool.specs.Pool.{Rooms, entriesOf, entryRoom, texts, pu
 use Rattle.stringpool.specs.Refs.{referenceTo}
 use Rattle.stringpool.specs.Take.{takenAt, counting}
 use Rattle.stringpool.specs.declared.pool.StringPool.{StringPool}
-use Rattle.stringpool.specs.Points.{DropOrder, CountsDown, FreeWithBytes, FreeExactly, ChoiceStays, CountFull, EntryRoom, FullFirst, NothingButSix, UnsoundFirst, UnsoundThen, UnsoundTake, CodePage, Marked, OutputRoom}
+use Rattle.stringpool.specs.Points.{DropOrder, CountsDown, FreeWithBytes, FreeExactly, ChoiceStays, CountFull, EntryRoom, FullFirst, NothingButSix, UnsoundFirst, UnsoundThen, UnsoundTake, CodePage, Marked, OutputRoom, LoadInOrder, Showing, TakeSize, RoomSize, RoomBefore6}
 
 -- a take at k by its first three tests
 abbrev By : StringPool → Rooms → List ℕ → ℕ → Bool → Bool → Bool → Answer ((ℤ × StringPool) × Rooms)
@@ -30,7 +30,7 @@ By p w t k new full last =
 
 pub drop-order : DropOrder
 unfolding soundRooms entryBytes
-drop-order = (refl, refl, refl, refl, refl)
+drop-order = (refl, refl, refl, refl, refl, refl)
 
 pub counts-down : CountsDown
 unfolding soundRooms entryBytes
@@ -86,7 +86,7 @@ unsound-take = refl
 
 pub code-page : CodePage
 unfolding soundRooms entryBytes
-code-page = (refl, refl, refl)
+code-page = (refl, refl, refl, refl)
 
 pub marked : Marked
 unfolding soundRooms entryBytes
@@ -95,3 +95,26 @@ marked = (refl, refl)
 pub output-room : OutputRoom
 unfolding soundRooms entryBytes
 output-room = (refl, refl, refl, refl)
+
+pub load-in-order : LoadInOrder
+unfolding soundRooms entryBytes
+load-in-order = (refl, refl, refl, refl, refl, refl, refl, refl, refl)
+
+pub showing : Showing
+unfolding soundRooms entryBytes
+showing = (refl, refl, refl, refl, refl, refl, refl, refl, refl, refl)
+
+pub take-size : TakeSize
+unfolding soundRooms entryBytes
+take-size = (λ t e. rw e, λ t e. rw e, λ t e. rw e)
+
+pub room-before-6 : RoomBefore6
+unfolding soundRooms entryBytes
+room-before-6 = refl
+
+pub room-size : RoomSize
+room-size p w h = (
+  λ r. (simp (lt-ltb 268435455 (length (w .text)) h), simp (lt-ltb 268435455 (length (w .text)) h), simp (lt-ltb 268435455 (length (w .text)) h)),
+  λ page. simp (lt-ltb 268435455 (length (w .text)) h),
+  λ bytes out. simp (lt-ltb 268435455 (length (w .text)) h),
+)

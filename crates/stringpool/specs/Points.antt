@@ -7,6 +7,7 @@ use Prim.Native.Nat.{ℕ, _≤_, _<_}
 use lib.ListN.{length}
 use lib.IntN.{ℤ, pos, negsuc}
 use Rattle.common.specs.Answers.{gives, refused, nowhere, onGiven}
+use Rattle.common.specs.Sizes.{maxBytes}
 use Rattle.order.specs.Order.{textFits}
 use Rattle.stringpool.specs.Pool.{Rooms, rooms, entriesOf, texts, putBack}
 use Rattle.stringpool.specs.Refs.{referenceTo}
@@ -42,10 +43,11 @@ Takes n w t r m v = takeOutcome firstFreeOrEqual (short n) w t ≡ (gives (pos r
 abbrev pub two : Rooms
 two = rooms (2 ∷ 1 ∷ 9 ∷ []) (2 ∷ 1 ∷ 0 ∷ []) (65 ∷ 66 ∷ 67 ∷ 7 ∷ [])
 
--- "Drop: 8, 9, 10": a number out of range is past the last entry too; one past the last, where the room has a count of 0
+-- "Drop: 8, 9, 10": numbers out of range that are past the last entry too, of an empty pool and of one with two entries; one past the last, where
+-- the room has a count of 0
 abbrev pub DropOrder : Type 0
-DropOrder = DropRefused (short 2) two (pos 0) 8 × DropRefused (short 2) two (negsuc 0) 8 × DropRefused (short 2) two (pos 16777216) 8
-    × DropRefused (short 2) two (pos 16777215) 9 × DropRefused (short 2) two (pos 3) 9
+DropOrder = DropRefused (short 0) two (pos 0) 8 × DropRefused (short 0) two (negsuc 0) 8 × DropRefused (short 0) two (pos 1) 9
+    × DropRefused (short 2) two (pos 16777216) 8 × DropRefused (short 2) two (pos 16777215) 9 × DropRefused (short 2) two (pos 3) 9
 
 -- "count down; at 0 the text goes": a count of 2, and of 1, the first or the last; "bytes given up by a shorter total become 0"
 abbrev pub CountsDown : Type 0
@@ -119,6 +121,7 @@ UnsoundTake = TakeRefused (short 2) unsound (66 ∷ []) 24
 -- "Making an empty (short) pool or setting the code page: 21."
 abbrev pub CodePage : Type 0
 CodePage = (newAnswer 2147483647 ≡ gives (record { «num_strings» = 0; «long_string_refs» = false; codepage = 2147483647 })) × (newAnswer 2147483648 ≡ refused 21 nowhere)
+    × (setPageAnswer (short 2) two 2147483647 ≡ gives (record { «num_strings» = 2; «long_string_refs» = false; codepage = 2147483647 }))
     × (setPageAnswer (short 2) two 2147483648 ≡ refused 21 nowhere)
 
 -- "bit 31 says long references (3 bytes), the rest is the code page"
@@ -132,3 +135,46 @@ OutputRoom = (writeOutcome (short 0) two (poolBytes (short 0) two) (7 ∷ 7 ∷ 
     × (writeOutcome (short 0) two (poolBytes (short 0) two) (7 ∷ 7 ∷ 7 ∷ 7 ∷ 7 ∷ []) ≡ (gives 4, 0 ∷ 0 ∷ 0 ∷ 0 ∷ 7 ∷ []))
     × (writeOutcome (short 2) two (dataBytes (short 2) two) (7 ∷ 7 ∷ []) ≡ (refused 7 nowhere, 7 ∷ 7 ∷ []))
     × (writeOutcome (short 2) two (dataBytes (short 2) two) (7 ∷ 7 ∷ 7 ∷ []) ≡ (gives 3, 65 ∷ 66 ∷ 67 ∷ []))
+
+-- ---- load, show, and the sizes
+
+abbrev pub LoadRefused : List ℕ → List ℕ → Rooms → ℕ → Type 0
+LoadRefused s d w n = loadOutcome s d w ≡ (refused n nowhere, w)
+
+-- a pool stream of one entry of two bytes
+abbrev pub oneOfTwo : List ℕ
+oneOfTwo = 0 ∷ 0 ∷ 0 ∷ 0 ∷ 2 ∷ 0 ∷ 1 ∷ 0 ∷ []
+
+-- "Load: 1, 2, 3, 4, 5, 6": 1 also of an empty stream, whose reading would be 2; then each fault beside all later ones where it can be, either room
+-- too short, and the entry loaded where all suffices
+abbrev pub LoadInOrder : Type 0
+LoadInOrder = LoadRefused (0 ∷ 0 ∷ 0 ∷ []) [] (rooms [] [] []) 1 × LoadRefused [] [] (rooms [] [] []) 1
+    × LoadRefused (0 ∷ 0 ∷ 0 ∷ 0 ∷ 2 ∷ 0 ∷ 1 ∷ 0 ∷ 9 ∷ 9 ∷ []) [] (rooms [] [] []) 2
+    × LoadRefused oneOfTwo [] (rooms (9 ∷ []) [] []) 4 × LoadRefused oneOfTwo [] (rooms [] (8 ∷ []) []) 4
+    × LoadRefused oneOfTwo (65 ∷ []) (rooms (9 ∷ []) (8 ∷ []) (7 ∷ [])) 5 × LoadRefused oneOfTwo (65 ∷ []) (rooms (9 ∷ []) (8 ∷ []) (7 ∷ 7 ∷ [])) 5
+    × LoadRefused oneOfTwo (65 ∷ 66 ∷ []) (rooms (9 ∷ []) (8 ∷ []) (7 ∷ [])) 6
+    × (loadOutcome oneOfTwo (65 ∷ 66 ∷ 67 ∷ []) (rooms (9 ∷ 9 ∷ []) (8 ∷ []) (7 ∷ 7 ∷ 7 ∷ [])) ≡ (gives (short 1), rooms (2 ∷ 9 ∷ []) (1 ∷ []) (65 ∷ 66 ∷ 7 ∷ [])))
+
+-- "Show: 8, else the entry's bytes as a part of the lent text room; past the last entry, the empty part", "Its count likewise, 0 past the end": a count that
+-- the room holds past the end is not looked at
+abbrev pub Showing : Type 0
+Showing = (showAnswer (short 2) two (pos 0) ≡ refused 8 nowhere) × (showAnswer (short 2) two (pos 1) ≡ gives (65 ∷ 66 ∷ [])) × (showAnswer (short 2) two (pos 2) ≡ gives (67 ∷ []))
+    × (showAnswer (short 2) two (pos 3) ≡ gives []) × (showAnswer (short 2) two (pos 16777215) ≡ gives []) × (showAnswer (short 2) two (pos 16777216) ≡ refused 8 nowhere)
+    × (refcountAnswer (short 2) two (pos 0) ≡ refused 8 nowhere) × (refcountAnswer (short 2) two (pos 1) ≡ gives 2) × (refcountAnswer (short 1) two (pos 2) ≡ gives 0)
+    × (refcountAnswer (short 2) two (pos 16777216) ≡ refused 8 nowhere)
+
+-- "texts handed in, at most 268,435,455 bytes": one of that size comes to 4, one byte more is 22, in an unsound state too
+abbrev pub TakeSize : Type 0
+TakeSize = ((t : List ℕ) → length t ≡ 268435455 → TakeRefused (short 0) (rooms [] [] []) t 4)
+    × ((t : List ℕ) → length t ≡ 268435456 → TakeRefused (short 0) (rooms [] [] []) t 22) × ((t : List ℕ) → length t ≡ 268435456 → TakeRefused (short 2) unsound t 22)
+
+-- "22 first": of a text room above the size, whatever else is wrong
+abbrev pub RoomSize : Type 0
+RoomSize = (p : StringPool) (w : Rooms) → maxBytes < length (w .text)
+    → ((r : ℤ) → (showAnswer p w r ≡ refused 22 nowhere) × (refcountAnswer p w r ≡ refused 22 nowhere) × DropRefused p w r 22)
+    × ((page : ℕ) → setPageAnswer p w page ≡ refused 22 nowhere)
+    × ((bytes out : List ℕ) → writeOutcome p w bytes out ≡ (refused 22 nowhere, out))
+
+-- "Take: 11, 12, 4, 6": no place and no room for a text of one byte: 4
+abbrev pub RoomBefore6 : Type 0
+RoomBefore6 = TakeRefused (short 1) (rooms (1 ∷ []) (1 ∷ []) (65 ∷ [])) (66 ∷ []) 4

@@ -1,6 +1,6 @@
 -- The points of specs/Points.antt, by computation.
 use mathlib.Core.Path.{refl}
-use Rattle.table.specs.Points.{ColumnBounds, CountBeforeColumns, FirstBadColumn, SizeBeforeCount, ColumnsBeforeRows, RowBounds, RowsBeforePlaces, CellCounts, CountsBeforeCells, CellsBeforeRoom, ColumnByColumn, WriteRoom, ReadRoom, PlaceBounds, NoColumns, StrayBytes}
+use Rattle.table.specs.Points.{ReadBefore7, ColumnBounds, CountBeforeColumns, FirstBadColumn, SizeBeforeCount, ColumnsBeforeRows, RowBounds, RowsBeforePlaces, CellCounts, CountsBeforeCells, CellsBeforeRoom, ColumnByColumn, WriteRoom, ReadRoom, PlaceBounds, NoColumns, StrayBytes}
 
 pub column-bounds : ColumnBounds
 column-bounds = (λ l. refl, λ l. refl, λ l. refl, λ l. refl)
@@ -49,3 +49,6 @@ no-columns = (λ s e. rw e, λ s e. rw e)
 
 pub stray-bytes : StrayBytes
 stray-bytes = (refl, refl, refl, refl, refl, refl, refl, refl)
+
+pub read-before-7 : ReadBefore7
+read-before-7 = (λ s e. rw e, λ s e. rw e, λ s e. rw e, λ s e. rw e)

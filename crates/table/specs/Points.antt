@@ -156,3 +156,11 @@ StrayBytes =
     (numRowsAnswer ofM eleven ≡ gives 2) × (cellStart (typesOf ofM) false 2 0 1 ≡ 4) × (readCellAnswer ofM eleven 0 1 ≡ gives (2, pos 3))
     × (readCellAnswer ofM eleven 1 1 ≡ gives (0, pos 0)) × (numRowsAnswer ofM twelve ≡ gives 3) × (cellStart (typesOf ofM) false 3 0 1 ≡ 6)
     × (readCellAnswer ofM twelve 0 1 ≡ gives (0, pos 0)) × (readCellAnswer ofM twelve 1 1 ≡ gives (2, pos 48042))
+
+-- a bulk read comes to 14, 22 and 19 before 7, beside outputs of no places; 65,536 rows are 7 there
+abbrev pub ReadBefore7 : Type 0
+ReadBefore7 =
+    ((s : List ℕ) → length s ≡ 131074 → readRowsOutcome one s [] [] ≡ (refused 14 nowhere, ([], [])))
+    × ((s : List ℕ) → length s ≡ 131072 → readRowsOutcome one s [] [] ≡ (refused 7 nowhere, ([], [])))
+    × ((s : List ℕ) → length s ≡ 268435456 → readRowsOutcome wide s [] [] ≡ (refused 22 nowhere, ([], [])))
+    × ((s : List ℕ) → length s ≡ 6 → readRowsOutcome bad s [] [] ≡ (refused 19 (column 1), ([], [])))

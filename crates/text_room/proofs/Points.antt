@@ -3,7 +3,7 @@ use mathlib.Core.Path.{refl}
 use lib.ListN.{length}
 use borrow.Author.Tests.{lt-ltb}
 use Rattle.text_room.specs.Texts.{splice}
-use Rattle.text_room.specs.Points.{OverSize, NotInUse, TextRoom, InOrder, Replaced, Copied}
+use Rattle.text_room.specs.Points.{CopySize, OverSize, NotInUse, TextRoom, InOrder, Replaced, Copied}
 
 pub over-size : OverSize
 over-size = (refl, refl, refl)
@@ -23,3 +23,6 @@ replaced = (refl, refl, refl)
 
 pub copied : Copied
 copied = (refl, refl, refl, λ bytes out h. simp (lt-ltb 268435455 (length bytes) h))
+
+pub copy-size : CopySize
+copy-size bytes e = rw e

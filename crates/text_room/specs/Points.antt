@@ -35,3 +35,7 @@ abbrev pub Copied : Type 0
 Copied = (copyOutcome (1 ∷ 2 ∷ []) (7 ∷ []) ≡ (refused 7 nowhere, 7 ∷ [])) × (copyOutcome (1 ∷ 2 ∷ []) (7 ∷ 7 ∷ []) ≡ (gives 2, 1 ∷ 2 ∷ []))
     × (copyOutcome (1 ∷ 2 ∷ []) (7 ∷ 7 ∷ 7 ∷ []) ≡ (gives 2, 1 ∷ 2 ∷ 7 ∷ []))
     × ((bytes out : List ℕ) → maxBytes < length bytes → copyOutcome bytes out ≡ (refused 22 nowhere, out))
+
+-- bytes of the size are not 22: without room for them 7
+abbrev pub CopySize : Type 0
+CopySize = (bytes : List ℕ) → length bytes ≡ 268435455 → copyOutcome bytes [] ≡ (refused 7 nowhere, [])

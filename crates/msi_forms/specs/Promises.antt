@@ -1,4 +1,5 @@
--- What a column of an unknown type comes to, whatever the call on its table: all of them judge the columns so, before 14.
+-- What judging the columns of a layout that C handed over comes to where the first bad one is of an unknown type. Every call on a table judges
+-- its columns so, before 14.
 use Prim.Native.Nat.{ℕ, _≤_, _<_}
 use mathlib.Core.Bool.{true}
 use mathlib.Core.Path.{_≡_}

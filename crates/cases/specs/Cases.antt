@@ -5,7 +5,7 @@ use mathlib.Core.Bool.{true, false}
 use mathlib.Core.List.{List, [], _∷_, map}
 use lib.IntN.{ℤ, pos, negsuc}
 use Rattle.common.specs.Answers.{gives, column}
-use Rattle.column_type.specs.declared.form.ColumnType.the-variants.{Str, Binary}
+use Rattle.cell.specs.declared.form.ColumnType.the-variants.{Str, Binary}
 use Rattle.cases.specs.Shown.{Asked, name, written, bits, loaded, taken, Shown, units, bytes, type, pool, answers, refuses, answered}
 
 pub record Case : Type 0 where

@@ -14,7 +14,7 @@ use Rattle.stringpool.specs.Refs.{referenceTo}
 use Rattle.stringpool.specs.Load.{loadOutcome}
 use Rattle.stringpool.specs.Show.{showAnswer, refcountAnswer}
 use Rattle.stringpool.specs.Take.{firstFreeOrEqual, takeOutcome}
-use Rattle.column_type.specs.declared.form.ColumnType.{ColumnType}
+use Rattle.cell.specs.declared.form.ColumnType.{ColumnType}
 use Rattle.column.specs.declared.column.Column.{Column}
 use Rattle.column.specs.Columns.{building, bitsColumn}
 use Rattle.table.specs.Layout.{bitfieldsOutcome}

@@ -12,9 +12,9 @@ use borrow.Author.Tests.{eq-eqb, ne-eqb, eqb-true, eqb-false}
 use Rattle.common.specs.Choice.{if_then_else_}
 use Rattle.column.specs.Bits.{has, without, typeBits}
 use Rattle.column.specs.inner.Bits.{MaximumFits}
-use Rattle.column_type.proofs.Halves.{lt-or-le}
-use Rattle.column_type.specs.declared.form.ColumnType.{ColumnType}
-use Rattle.column_type.specs.declared.form.ColumnType.the-variants.{Int16, Int32, Str, Binary}
+use Rattle.cell.proofs.Halves.{lt-or-le}
+use Rattle.cell.specs.declared.form.ColumnType.{ColumnType}
+use Rattle.cell.specs.declared.form.ColumnType.the-variants.{Int16, Int32, Str, Binary}
 use lib.IntN.{pos}
 use mir.Syntax.{w32}
 use mir.Val.{toZ}

@@ -9,8 +9,8 @@ use lib.IntN.{pos}
 use Rattle.common.specs.Choice.{if_then_else_}
 use Rattle.common.specs.Answers.{gives, refused, onGiven}
 use Rattle.common.proofs.Below.{allBelow, each, both}
-use Rattle.column_type.specs.declared.form.ColumnType.{ColumnType}
-use Rattle.column_type.specs.declared.form.ColumnType.the-variants.{Int16, Int32, Str, Binary}
+use Rattle.cell.specs.declared.form.ColumnType.{ColumnType}
+use Rattle.cell.specs.declared.form.ColumnType.the-variants.{Int16, Int32, Str, Binary}
 use Rattle.column.specs.declared.column.ColumnBuilder.{ColumnBuilder}
 use Rattle.column.specs.declared.column.ValueRange.{ValueRange}
 use Rattle.column.specs.Bits.{has, without, size, typeBits}

@@ -9,10 +9,10 @@ use types.Run.{OneOf}
 use denote.Enum.Declared.{tagOf}
 use borrow.Author.Tests.{ltb-false}
 use Rattle.common.specs.Answers.{column, gives, refused}
-use Rattle.column_type.specs.declared.form.ColumnType.{ColumnType}
-use Rattle.column_type.specs.declared.form.ColumnType.the-variants.{Int16, Int32, Str, Binary}
-use Rattle.column_type.proofs.form.ColumnType as type
-use Rattle.column_type.specs.Forms.{soundType}
+use Rattle.cell.specs.declared.form.ColumnType.{ColumnType}
+use Rattle.cell.specs.declared.form.ColumnType.the-variants.{Int16, Int32, Str, Binary}
+use Rattle.cell.proofs.form.ColumnType as type
+use Rattle.cell.specs.Forms.{soundType}
 use Rattle.column.specs.inner.Bits.{tooLong, MaximumFits}
 use Rattle.column.specs.Check.{textSuits}
 

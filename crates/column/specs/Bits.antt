@@ -4,8 +4,8 @@ use mathlib.Core.Bool.{Bool, _||_}
 use lib.IntN.{ℤ, pos, negsuc}
 use Rattle.common.specs.Choice.{if_then_else_, _=?_}
 use Rattle.common.specs.Answers.{Answer, gives, refused, column}
-use Rattle.column_type.specs.declared.form.ColumnType.{ColumnType}
-use Rattle.column_type.specs.declared.form.ColumnType.the-variants.{Int16, Int32, Str, Binary}
+use Rattle.cell.specs.declared.form.ColumnType.{ColumnType}
+use Rattle.cell.specs.declared.form.ColumnType.the-variants.{Int16, Int32, Str, Binary}
 
 -- "Any signed 32-bit number may come": its bits; those of a negative number, -1 - n, are all but those of n
 abbrev pub bitsOf : ℤ → ℕ

@@ -8,11 +8,11 @@ use Rattle.common.specs.Choice.{if_then_else_, _<?_, _≤?_, _=?_, _<ℤ?_}
 use Rattle.common.specs.Sizes.{maxBytes}
 use Rattle.common.specs.Answers.{Answer, gives, refused, nowhere, onGiven}
 use Rattle.common.specs.Refusals.{refusedBy}
-use Rattle.value.specs.declared.Value.{Value}
-use Rattle.value.specs.declared.Value.the-variants as value
-use Rattle.column_type.specs.Forms.{soundType}
-use Rattle.column_type.specs.declared.form.ColumnType.{ColumnType}
-use Rattle.column_type.specs.declared.form.ColumnType.the-variants.{Int16, Int32, Str, Binary}
+use Rattle.cell.specs.declared.value.Value.{Value}
+use Rattle.cell.specs.declared.value.Value.the-variants as value
+use Rattle.cell.specs.Forms.{soundType}
+use Rattle.cell.specs.declared.form.ColumnType.{ColumnType}
+use Rattle.cell.specs.declared.form.ColumnType.the-variants.{Int16, Int32, Str, Binary}
 use Rattle.column.specs.declared.column.Column.{Column}
 use Rattle.column.specs.declared.column.ValueRange.{ValueRange}
 use Rattle.column.specs.declared.column.ValueRange.the-variants.{Any, Within}

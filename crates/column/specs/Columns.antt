@@ -5,9 +5,9 @@ use lib.IntN.{ℤ, pos}
 use Rattle.common.specs.Choice.{if_then_else_}
 use Rattle.common.specs.Answers.{Answer, gives, onGiven}
 use Rattle.common.specs.Refusals.{refusedBy}
-use Rattle.column_type.specs.Forms.{soundType}
+use Rattle.cell.specs.Forms.{soundType}
 use Rattle.column.specs.Bits.{bitsOf, has, typeFrom, typeBits}
-use Rattle.column_type.specs.declared.form.ColumnType.{ColumnType}
+use Rattle.cell.specs.declared.form.ColumnType.{ColumnType}
 use Rattle.column.specs.declared.column.Column.{Column}
 use Rattle.column.specs.declared.column.ColumnBuilder.{ColumnBuilder}
 use Rattle.column.specs.declared.column.ValueRange.the-variants.{Any, Within}

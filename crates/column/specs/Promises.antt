@@ -5,8 +5,8 @@ use mathlib.Core.Bool.{_&&_, _||_}
 use lib.IntN.{ℤ}
 use Rattle.common.specs.Choice.{if_then_else_}
 use Rattle.common.specs.Answers.{gives, onGiven}
-use Rattle.column_type.specs.declared.form.ColumnType.{ColumnType}
-use Rattle.column_type.specs.declared.form.ColumnType.the-variants.{Str}
+use Rattle.cell.specs.declared.form.ColumnType.{ColumnType}
+use Rattle.cell.specs.declared.form.ColumnType.the-variants.{Str}
 use Rattle.column.specs.declared.column.Column.{Column}
 use Rattle.column.specs.declared.column.ColumnBuilder.{ColumnBuilder}
 use Rattle.column.specs.Bits.{bitsOf, has, typeAfter, typeFrom}

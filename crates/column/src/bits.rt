@@ -1,5 +1,5 @@
 // A column's type and marks in its bits, read and set by masks.
-use column_type::ColumnType;
+use cell::ColumnType;
 ghost use mathlib.Core.Path.{_≡_};
 ghost use lib.Bits.{bitOr};
 ghost use Rattle.common.specs.Choice.{if_then_else_};

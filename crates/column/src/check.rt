@@ -1,9 +1,9 @@
 // The check of a value against its column; a text stands beside the value.
 use crate::column::Column;
 use crate::column::ValueRange;
-use column_type::ColumnType;
+use cell::ColumnType;
+use cell::Value;
 use common::Refusal;
-use value::Value;
 ghost use mathlib.Core.Path.{_≡_};
 ghost use Rattle.column.specs.Check.{isBinary, inside, aboveUpTo, integerFits, textSuits, suits, checkAnswer, validityAs};
 

@@ -1,11 +1,11 @@
 // A column and its maker. Marks are set one after another; a type, or bits, make the column.
 use crate::bits;
 use crate::bits::Read;
-use column_type::ColumnType;
+use cell::ColumnType;
 use common::Refusal;
 ghost use mathlib.Core.Path.{_≡_};
 ghost use Rattle.column.specs.Columns.{building, withLocalizable, withNullable, withPrimaryKey, withRange, finished, bitsColumn, columnMadeAs, butNullable, bitfieldAnswer, bitfieldAs};
-ghost use Rattle.column_type.specs.declared.form.ColumnType.the-variants as types;
+ghost use Rattle.cell.specs.declared.form.ColumnType.the-variants as types;
 
 // The integers that a column allows: the least and the largest, or any.
 pub enum ValueRange {

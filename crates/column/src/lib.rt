@@ -9,4 +9,4 @@ pub use crate::column::Column;
 pub use crate::column::ColumnBuilder;
 pub use crate::column::ColumnMade;
 pub use crate::column::ValueRange;
-pub use column_type::ColumnType;
+pub use cell::ColumnType;

@@ -1,7 +1,7 @@
 // The value check at every edge of range, maximum and width.
+use cell::Value;
 use column::Column;
 use column::Validity;
-use value::Value;
 
 fn check(label: &[u8], x: Column, v: Value, text: &[u8]) {
     show::words(b"value check, ");

@@ -5,3 +5,5 @@ pub mod Parts
 pub mod Run
 pub mod Writing
 pub mod Outcomes
+pub mod Limits
+pub mod Points

@@ -3,3 +3,5 @@ pub mod Sizes
 pub mod Lists
 pub mod Answers
 pub mod Refusals
+pub mod Points
+pub mod Refs

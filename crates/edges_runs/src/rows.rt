@@ -1,8 +1,8 @@
 // Case m's bytes and more, and the largest number of rows.
+use cell::ValueRef;
 use table::CellRead;
 use table::Counted;
 use table::Table;
-use value::ValueRef;
 
 fn table_m() -> Table {
     let fields = [0x502i32, 0xD08];

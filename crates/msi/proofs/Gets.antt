@@ -11,8 +11,8 @@ use Rattle.common.specs.declared.refusal.Refusal.{Refusal}
 use Rattle.common.proofs.Outcomes.{refused-gives}
 use Rattle.stringpool.specs.Show.{orEmpty}
 use Rattle.stringpool.specs.Write.{writeAnswer}
-use Rattle.msi_forms.specs.Answers.{refusalIn, countIn, answeredAs}
-use Rattle.msi_forms.specs.declared.answers.Count.{Count}
+use Rattle.c_types.specs.Answers.{refusalIn, countIn, answeredAs}
+use Rattle.c_types.specs.declared.answers.Count.{Count}
 
 -- a refusal, whatever was to be given
 refusalAs : {A B : Type 0} → Answer A → Answer B

@@ -16,15 +16,15 @@ use Rattle.common.proofs.Outcomes.{refused-gives}
 use Rattle.stringpool.specs.Pool.{Rooms, sound}
 use Rattle.stringpool.specs.Write.{writeAnswer}
 use Rattle.stringpool.specs.declared.pool.StringPool.{StringPool}
-use Rattle.value.specs.Kinds.{refKind, refNumber, valueKind, valueNumber}
-use Rattle.value.specs.declared.ValueRef.the-variants as values
-use Rattle.value.specs.declared.Value.the-variants as plain
+use Rattle.cell.specs.Kinds.{refKind, refNumber, valueKind, valueNumber}
+use Rattle.cell.specs.declared.value.ValueRef.the-variants as values
+use Rattle.cell.specs.declared.value.Value.the-variants as plain
 use Rattle.pool_values.specs.Pooled.{createAnswer, removeAnswer}
-use Rattle.msi_forms.specs.Answers.{countIn, answeredAs}
-use Rattle.value.specs.Handed.{unknown}
-use Rattle.msi_forms.specs.Unknown.{onKind}
-use Rattle.msi_forms.specs.Values.{valueIn, plainIn}
-use Rattle.msi_forms.specs.declared.answers.Count.{Count}
+use Rattle.c_types.specs.Answers.{countIn, answeredAs}
+use Rattle.cell.specs.Handed.{unknown}
+use Rattle.c_types.specs.Unknown.{onKind}
+use Rattle.c_types.specs.Values.{valueIn, plainIn}
+use Rattle.c_types.specs.declared.answers.Count.{Count}
 use Rattle.msi.proofs.Gets.{written}
 use Rattle.msi.proofs.Handed.{hands}
 

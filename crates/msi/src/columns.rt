@@ -1,24 +1,24 @@
 // Columns: the marks and the type of one being made, its bits, and the check of a value.
+use c_types::answers::ColumnAnswer;
+use c_types::answers::ColumnParts;
+use c_types::answers::Flag;
+use c_types::answers::Reference;
+use c_types::columns::builder_in;
+use c_types::columns::builder_out;
+use c_types::columns::column_in;
+use c_types::columns::from_bits;
+use c_types::columns::from_check;
+use c_types::columns::from_made;
+use c_types::columns::parts_of;
+use c_types::values::plain_in;
 use column::Column;
-use msi_forms::answers::ColumnAnswer;
-use msi_forms::answers::ColumnParts;
-use msi_forms::answers::Flag;
-use msi_forms::answers::Reference;
-use msi_forms::columns::builder_in;
-use msi_forms::columns::builder_out;
-use msi_forms::columns::column_in;
-use msi_forms::columns::from_bits;
-use msi_forms::columns::from_check;
-use msi_forms::columns::from_made;
-use msi_forms::columns::parts_of;
-use msi_forms::values::plain_in;
 ghost use mathlib.Core.Path.{_≡_};
 ghost use Rattle.column.specs.Columns.{building, withLocalizable, withNullable, withPrimaryKey, withRange, finished, bitsColumn, bitfieldAnswer};
-ghost use Rattle.column_type.specs.declared.form.ColumnType.the-variants as types;
-ghost use Rattle.msi_forms.specs.Answers.{flagIn};
-ghost use Rattle.msi_forms.specs.Pools.{referenceIn};
-ghost use Rattle.msi_forms.specs.Columns.{builderIn, builderOut, columnFrom, onColumn, partsOf, columnIn};
-ghost use Rattle.msi_forms.specs.Values.{checkBy};
+ghost use Rattle.cell.specs.declared.form.ColumnType.the-variants as types;
+ghost use Rattle.c_types.specs.Answers.{flagIn};
+ghost use Rattle.c_types.specs.Pools.{referenceIn};
+ghost use Rattle.c_types.specs.Columns.{builderIn, builderOut, columnFrom, onColumn, partsOf, columnIn};
+ghost use Rattle.c_types.specs.Values.{checkBy};
 
 #[no_mangle]
 pub extern "C" fn strandroost_column_build() -> ColumnParts

@@ -1,13 +1,13 @@
 // Stream names.
-use msi_forms::answers::Count;
-use msi_forms::answers::Flag;
-use msi_forms::answers::Name;
-use msi_forms::names::decoded;
-use msi_forms::names::encoded;
-use msi_forms::names::judged;
+use c_types::answers::Count;
+use c_types::answers::Flag;
+use c_types::answers::Name;
+use c_types::names::decoded;
+use c_types::names::encoded;
+use c_types::names::judged;
 ghost use mathlib.Core.Path.{_≡_};
 ghost use Rattle.streamname.specs.Calls.{encodeOutcome, decodeOutcome, validAnswer};
-ghost use Rattle.msi_forms.specs.Answers.{countIn, nameIn, flagIn, answeredAs};
+ghost use Rattle.c_types.specs.Answers.{countIn, nameIn, flagIn, answeredAs};
 
 #[no_mangle]
 pub extern "C" fn strandroost_encode(name: &[u16], is_table: bool, out: &mut [u16]) -> Count

@@ -1,24 +1,24 @@
 // Tables: a layout by its columns or their bitfields, and the calls on it. A layout handed over need not be one that was made: each
 // call judges it.
-use msi_forms::answers::CellAnswer;
-use msi_forms::answers::Count;
-use msi_forms::answers::StepAnswer;
-use msi_forms::answers::TableAnswer;
-use msi_forms::answers::TableParts;
-use msi_forms::tables::from_cell;
-use msi_forms::tables::from_laid;
-use msi_forms::tables::from_new;
-use msi_forms::tables::from_rows;
-use msi_forms::tables::from_step;
-use msi_forms::tables::table_in;
+use c_types::answers::CellAnswer;
+use c_types::answers::Count;
+use c_types::answers::StepAnswer;
+use c_types::answers::TableAnswer;
+use c_types::answers::TableParts;
+use c_types::tables::from_cell;
+use c_types::tables::from_laid;
+use c_types::tables::from_new;
+use c_types::tables::from_rows;
+use c_types::tables::from_step;
+use c_types::tables::table_in;
 use table::Table;
 ghost use mathlib.Core.Path.{_≡_};
 ghost use Rattle.table.specs.Layout.{bitfieldsOutcome, columnsOutcome};
 ghost use Rattle.table.specs.Reading.{numRowsAnswer, readCellAnswer, readRowsOutcome};
 ghost use Rattle.table.specs.Writing.{writeRowsOutcome};
 ghost use Rattle.rows.specs.Next.{nextOutcome};
-ghost use Rattle.msi_forms.specs.Answers.{countIn, answeredAs};
-ghost use Rattle.msi_forms.specs.Tables.{tableIn, onTable, laidIn, newIn, cellIn, stepIn};
+ghost use Rattle.c_types.specs.Answers.{countIn, answeredAs};
+ghost use Rattle.c_types.specs.Tables.{tableIn, onTable, laidIn, newIn, cellIn, stepIn};
 
 // The layout of the columns handed over, judged.
 #[no_mangle]

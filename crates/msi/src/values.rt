@@ -1,27 +1,27 @@
 // Values and the string pool: a value's kind and number, its text beside it.
 use crate::pools::copied;
-use msi_forms::answers::CellAnswer;
-use msi_forms::answers::Count;
-use msi_forms::answers::CreateAnswer;
-use msi_forms::answers::Pool;
-use msi_forms::answers::PoolAnswer;
-use msi_forms::answers::is_unknown;
-use msi_forms::answers::refused_count;
-use msi_forms::answers::unknown_kind;
-use msi_forms::pools::state;
-use msi_forms::values::from_created;
-use msi_forms::values::from_removed;
-use msi_forms::values::from_shown;
-use msi_forms::values::plain_in;
-use msi_forms::values::value_in;
+use c_types::answers::CellAnswer;
+use c_types::answers::Count;
+use c_types::answers::CreateAnswer;
+use c_types::answers::Pool;
+use c_types::answers::PoolAnswer;
+use c_types::answers::is_unknown;
+use c_types::answers::refused_count;
+use c_types::answers::unknown_kind;
+use c_types::pools::state;
+use c_types::values::from_created;
+use c_types::values::from_removed;
+use c_types::values::from_shown;
+use c_types::values::plain_in;
+use c_types::values::value_in;
 use pool_values::Shown;
 ghost use mathlib.Core.Path.{_≡_};
 ghost use Rattle.common.specs.Answers.{outcome};
 ghost use Rattle.stringpool.specs.Pool.{rooms};
-ghost use Rattle.msi_forms.specs.Answers.{countIn, answeredAs};
-ghost use Rattle.msi_forms.specs.Pools.{stateIn, poolIn};
-ghost use Rattle.msi_forms.specs.Tables.{cellIn};
-ghost use Rattle.msi_forms.specs.Values.{createBy, removeBy, shownBy, textBy, createdIn};
+ghost use Rattle.c_types.specs.Answers.{countIn, answeredAs};
+ghost use Rattle.c_types.specs.Pools.{stateIn, poolIn};
+ghost use Rattle.c_types.specs.Tables.{cellIn};
+ghost use Rattle.c_types.specs.Values.{createBy, removeBy, shownBy, textBy, createdIn};
 ghost use Rattle.msi.specs.Texts.{copiedOutcome};
 
 // A text is taken into the pool; any other value leaves it as it is.

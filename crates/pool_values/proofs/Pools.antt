@@ -22,13 +22,13 @@ use Rattle.stringpool.specs.Pool.{Rooms, sound, onSound}
 use Rattle.stringpool.specs.Take.{takenAs, takeAnswer, firstFreeOrEqual}
 use Rattle.stringpool.specs.Drop.{droppedAs}
 use Rattle.stringpool.specs.Show.{showAnswer, showableAs, orEmpty}
-use Rattle.value.specs.Kinds.{refKind, refNumber as numberOfValue, valueKind, valueNumber}
+use Rattle.cell.specs.Kinds.{refKind, refNumber as numberOfValue, valueKind, valueNumber}
 use Rattle.pool_values.specs.Pooled.{createdAs, createOutcome, shownAs, shownAnswer, textAnswer}
 use Rattle.pool_values.specs.inner.Pooled.{createdOf, plainOf, keptBy, shownOf}
-use Rattle.value.specs.declared.ValueRef.{ValueRef}
-use Rattle.value.specs.declared.ValueRef.the-variants as ref
-use Rattle.value.specs.declared.Value.{Value}
-use Rattle.value.specs.declared.Value.the-variants as plain
+use Rattle.cell.specs.declared.value.ValueRef.{ValueRef}
+use Rattle.cell.specs.declared.value.ValueRef.the-variants as ref
+use Rattle.cell.specs.declared.value.Value.{Value}
+use Rattle.cell.specs.declared.value.Value.the-variants as plain
 use Rattle.pool_values.specs.declared.Created.the-variants as createds
 use Rattle.pool_values.specs.declared.Shown.the-variants as shown
 

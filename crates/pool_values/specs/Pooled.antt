@@ -12,7 +12,7 @@ use Rattle.stringpool.specs.Pool.{Rooms, onSound}
 use Rattle.stringpool.specs.Take.{takeAnswer, firstFreeOrEqual}
 use Rattle.stringpool.specs.Drop.{dropAnswer}
 use Rattle.stringpool.specs.Show.{showAnswer}
-use Rattle.value.specs.Kinds.{refKind, refNumber, valueKind, valueNumber}
+use Rattle.cell.specs.Kinds.{refKind, refNumber, valueKind, valueNumber}
 use Rattle.pool_values.specs.declared.Created.{Created}
 use Rattle.pool_values.specs.declared.Created.the-variants as created
 use Rattle.pool_values.specs.declared.Shown.{Shown}

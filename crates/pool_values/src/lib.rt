@@ -1,4 +1,6 @@
 // Values and the string pool: a value is created with its text, removed, and shown again. A text stands beside the enum.
+pub use cell::Value;
+use cell::ValueRef;
 use common::Refusal;
 use common::sizes::MAX_BYTES;
 use stringpool::Dropped;
@@ -6,13 +8,11 @@ use stringpool::Showable;
 use stringpool::StringPool;
 use stringpool::StringRef;
 use stringpool::Taken;
-pub use value::Value;
-use value::ValueRef;
 ghost use mathlib.Core.Path.{_≡_};
 ghost use Rattle.stringpool.specs.Pool.{rooms};
 ghost use Rattle.stringpool.specs.Drop.{droppedAs};
 ghost use Rattle.stringpool.specs.Show.{orEmpty};
-ghost use Rattle.value.specs.Kinds.{refKind, refNumber, valueKind, valueNumber};
+ghost use Rattle.cell.specs.Kinds.{refKind, refNumber, valueKind, valueNumber};
 ghost use Rattle.pool_values.specs.Pooled.{createdAs, createOutcome, removeOutcome, shownAs, shownAnswer, textAnswer};
 ghost use Rattle.pool_values.specs.inner.Pooled.{createdOf, plainOf, keptBy, shownOf};
 ghost use Rattle.common.specs.Choice.{if_then_else_, _=?_};

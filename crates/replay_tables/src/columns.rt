@@ -1,5 +1,6 @@
 // Commands on columns.
 use crate::numbers;
+use cell::Value;
 use column::Bitfield;
 use column::Column;
 use column::ColumnBuilder;
@@ -13,7 +14,6 @@ use commands::words::bytes_in;
 use commands::words::end_of;
 use commands::words::front;
 use common::Refusal;
-use value::Value;
 ghost use Prim.Native.Nat.{_+_, _*_, _≤_};
 
 // 1 nullable, 2 localizable, 4 primary key, added up.

@@ -5,7 +5,7 @@ use commands::words::byte;
 use commands::words::number_at;
 ghost use mathlib.Core.Path.{_≡_};
 ghost use Prim.Native.Nat.{_<_};
-ghost use Rattle.column_type.specs.inner.Signed.{biased, unbiased};
+ghost use Rattle.cell.specs.inner.Signed.{biased, unbiased};
 
 fn bias(n: i32) -> u64
     ensures { λ r. ⌜ r ≡ biased 2147483648 n ⌝ }

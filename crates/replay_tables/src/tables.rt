@@ -1,6 +1,7 @@
 // Commands on tables.
 use crate::columns::comma_after;
 use crate::numbers;
+use cell::ValueRef;
 use commands::shown;
 use commands::words::after;
 use commands::words::byte;
@@ -13,7 +14,6 @@ use table::Counted;
 use table::Laid;
 use table::Table;
 use table::TableMade;
-use value::ValueRef;
 ghost use Prim.Native.Nat.{_≤_};
 ghost use lib.ListN.{length};
 

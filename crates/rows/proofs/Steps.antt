@@ -10,7 +10,7 @@ use lib.ListN.{length, getD, drop, List·getD-append}
 use borrow.Author.Tests.{lt-ltb, le-ltb}
 use Rattle.common.specs.Lists.{_over_}
 use Rattle.common.specs.Answers.{Place, gives, refused}
-use Rattle.column_type.proofs.Halves.{lt-or-le}
+use Rattle.cell.proofs.Halves.{lt-or-le}
 use Rattle.table.specs.declared.layout.Table.{Table}
 use Rattle.table.specs.Layout.{typesOf}
 use Rattle.table.specs.Rows.{cellAt, rowByRow}

@@ -10,7 +10,7 @@ use lib.IntN.{ℤ, pos}
 use lib.ListN.{length, take, drop, getD, replicate, drop-of-length-le}
 use lib.Seq.{take-nil, drop-cons}
 use Rattle.common.specs.Answers.{Place, Answer, gives, refused}
-use Rattle.column_type.proofs.Halves.{lt-or-le}
+use Rattle.cell.proofs.Halves.{lt-or-le}
 use Rattle.table.specs.declared.layout.Table.{Table}
 use Rattle.table.specs.Reading.{numRowsAnswer}
 use Rattle.rows.specs.Next.{Next, another, none, cellsOf, nextOutcome, walk}

@@ -7,7 +7,7 @@ use lib.ListN.{length, getD}
 use Rattle.common.specs.Choice.{if_then_else_, _<?_}
 use Rattle.common.specs.Answers.{Answer, gives, refused, onGiven}
 use Rattle.common.specs.Refusals.{refusedBy}
-use Rattle.value.specs.Kinds.{cellAs}
+use Rattle.cell.specs.Kinds.{cellAs}
 use Rattle.table.specs.declared.layout.Table.{Table}
 use Rattle.table.specs.Layout.{typesOf}
 use Rattle.table.specs.Rows.{cellAt, rowByRow}

@@ -5,7 +5,7 @@ use mathlib.Core.List.{List, [], _∷_}
 use Prim.Native.Nat.{ℕ}
 use lib.IntN.{pos, negsuc}
 use Rattle.common.specs.Answers.{gives, refused, nowhere, column}
-use Rattle.column_type.specs.declared.form.ColumnType.the-variants.{Str}
+use Rattle.cell.specs.declared.form.ColumnType.the-variants.{Str}
 use Rattle.column.specs.Columns.{building, finished}
 use Rattle.table.specs.declared.layout.Table.{Table}
 use Rattle.table.specs.Layout.{bitfieldsOutcome}

@@ -1,9 +1,9 @@
 // The row reader: the lent stream of a table and a place in it, answering one cell after another, row by row.
+use cell::ValueRef;
 use common::Refusal;
 use table::CellRead;
 use table::Counted;
 use table::Table;
-use value::ValueRef;
 ghost use mathlib.Core.Path.{_≡_};
 ghost use Rattle.rows.specs.Next.{stepAs, nextOutcome, beginning};
 

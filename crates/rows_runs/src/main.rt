@@ -1,10 +1,10 @@
 // The rows of case m read through the public calls: in bulk, by place, and one cell after another. A line says what was handed in and what came
 // of it; outputs are lent full of kind 9 and number 9 and shown whole.
+use cell::ValueRef;
 use rows::NextCell;
 use table::CellRead;
 use table::Counted;
 use table::Table;
-use value::ValueRef;
 
 fn counted(c: Counted) {
     match c {

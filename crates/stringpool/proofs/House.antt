@@ -14,7 +14,7 @@ use Rattle.common.specs.Refusals.{refusedBy}
 use Rattle.common.specs.Lists.{_over_, total}
 use Rattle.stringpool.specs.Pool.{Entry, Rooms, rooms, texts, all, sound, onSound}
 use Rattle.stringpool.specs.Refs.{onReference}
-use Rattle.string_ref.specs.Refs.{reference}
+use Rattle.common.specs.Refs.{reference}
 use Rattle.stringpool.specs.Show.{showAnswer, refcountAnswer, orEmpty}
 use Rattle.stringpool.specs.inner.Refs.{placeOf}
 use Rattle.stringpool.specs.inner.Sound.{soundB, judgeOf}

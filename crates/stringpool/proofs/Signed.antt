@@ -9,7 +9,7 @@ use borrow.Author.Tests.{ltb-false}
 use Rattle.common.specs.Choice.{if_then_else_}
 use Rattle.common.specs.Answers.{gives, refused, Place, nowhere}
 use Rattle.common.proofs.Outcomes.{refused-gives}
-use Rattle.string_ref.specs.Refs.{reference}
+use Rattle.common.specs.Refs.{reference}
 use Rattle.stringpool.specs.inner.Refs.{placeOf}
 use Rattle.stringpool.specs.declared.refs.Placed.the-variants as placed
 

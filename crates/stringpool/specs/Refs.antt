@@ -2,7 +2,7 @@
 use Prim.Native.Nat.{ℕ, _+_, _-_}
 use lib.IntN.{ℤ, pos, natAbs}
 use Rattle.common.specs.Answers.{Answer, nowhere, onGiven}
-use Rattle.string_ref.specs.Refs.{reference}
+use Rattle.common.specs.Refs.{reference}
 
 -- on with the entry place of a reference number
 abbrev pub onReference : {A : Type 0} → ℤ → (ℕ → Answer A) → Answer A

@@ -20,5 +20,5 @@ pub use crate::shows::Counted;
 pub use crate::shows::Showable;
 pub use crate::takes::Taken;
 pub use crate::writes::Written;
-pub use string_ref::Made;
-pub use string_ref::StringRef;
+pub use common::Made;
+pub use common::StringRef;

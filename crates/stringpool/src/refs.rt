@@ -1,6 +1,6 @@
 // A 1-based reference number and a 0-based entry place, kept apart and converted in one place.
-use string_ref::Made;
-use string_ref::StringRef;
+use common::Made;
+use common::StringRef;
 ghost use mathlib.Core.Path.{_≡_};
 ghost use Prim.Native.Nat.{_<_};
 ghost use Rattle.stringpool.specs.inner.Refs.{placeOf, refOf};

@@ -12,7 +12,7 @@ use Rattle.order.specs.Order.{bulkFits}
 use Rattle.common.specs.Choice.{if_then_else_}
 use Rattle.common.specs.Lists.{_over_}
 use Rattle.common.specs.Answers.{Place, nowhere, Answer, gives, refused, onGiven, refusalOf}
-use Rattle.column_type.specs.declared.form.ColumnType.{ColumnType}
+use Rattle.cell.specs.declared.form.ColumnType.{ColumnType}
 use Rattle.column.specs.declared.column.Column.{Column}
 use Rattle.table.specs.declared.layout.Table.{Table}
 use Rattle.table.specs.Layout.{typesOf, soundColumns}

@@ -11,8 +11,8 @@ use lib.ListN.{length, set}
 use Rattle.common.specs.Choice.{if_then_else_}
 use Rattle.common.specs.Lists.{overAt, _over_}
 use Rattle.common.specs.Answers.{Place, column, Answer, gives, refused, onGiven, outcome}
-use Rattle.column_type.specs.declared.form.ColumnType.{ColumnType}
-use Rattle.column_type.specs.declared.form.ColumnType.the-variants.{Int16, Int32, Str, Binary}
+use Rattle.cell.specs.declared.form.ColumnType.{ColumnType}
+use Rattle.cell.specs.declared.form.ColumnType.the-variants.{Int16, Int32, Str, Binary}
 use Rattle.column.specs.declared.column.Column.{Column}
 use Rattle.column.specs.declared.column.ColumnBuilder.{ColumnBuilder}
 use Rattle.column.specs.Bits.{bitsOf, has, without, size, typeFrom}

@@ -13,11 +13,11 @@ use Rattle.common.specs.Lists.{joined, from}
 use Rattle.common.specs.Answers.{Answer, gives, refused, cell, onGiven, each, refusalOf}
 use Rattle.little_endian.specs.Numbers.{bytesOf}
 use Rattle.little_endian.proofs.Laws.{length-bytes}
-use Rattle.column_type.specs.declared.form.ColumnType.{ColumnType}
-use Rattle.column_type.specs.declared.form.CellForm.{CellForm}
-use Rattle.column_type.specs.Cells.{width}
-use Rattle.column_type.specs.Forms.{formFor}
-use Rattle.column_type.proofs.Cells.{form-width, form-stored, form-unstored}
+use Rattle.cell.specs.declared.form.ColumnType.{ColumnType}
+use Rattle.cell.specs.declared.form.CellForm.{CellForm}
+use Rattle.cell.specs.Cells.{width}
+use Rattle.cell.specs.Forms.{formFor}
+use Rattle.cell.proofs.Cells.{form-width, form-stored, form-unstored}
 use Rattle.table.specs.declared.stride.Stride.{Stride}
 use Rattle.table.specs.Rows.{rowSize, typeAt, cellAt}
 use Rattle.table.specs.Writing.{Cells, cellBytes, columnBytes, tableBytes}

@@ -11,7 +11,7 @@ use lib.Seq.{getD-set-same, getD-set-other, getD-append-add, ext-getD, length-ta
 use Rattle.common.specs.Lists.{_over_, overAt, from}
 use Rattle.common.proofs.Parts.{over-all, exact-over}
 use Rattle.common.proofs.Writing.{Writing, begin, rooms, steps-front, done-front}
-use Rattle.column_type.proofs.Halves.{lt-or-le}
+use Rattle.cell.proofs.Halves.{lt-or-le}
 use Rattle.table.specs.Rows.{rowByRow}
 use Rattle.table.specs.inner.Strides.{strided}
 use Rattle.table.specs.inner.Columns.{rowsFrom}

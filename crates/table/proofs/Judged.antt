@@ -14,16 +14,16 @@ use mir.Facts.{toZ-pos}
 use types.Run.{OneOf}
 use denote.Enum.Declared.{tagOf}
 use Rattle.common.specs.Answers.{Place, Answer, gives, refused, refusalOf}
-use Rattle.value.proofs.Cell.{the-type}
-use Rattle.value.specs.declared.Cell.{Cell}
-use Rattle.value.specs.declared.Cell.the-variants.{Null, Int, Str, Binary, Unknown}
-use Rattle.value.specs.Handed.{handedNumber}
-use Rattle.column_type.specs.Cells.{integer, referenceNumber}
-use Rattle.column_type.specs.inner.Forms.{integerStored, referenceStored, binaryStored}
-use Rattle.column_type.specs.inner.Signed.{biased}
-use Rattle.column_type.proofs.Cases.{not-integer, not-reference, not-binary}
-use Rattle.column_type.proofs.Cells.{Good}
-use Rattle.column_type.proofs.Halves.{lt-or-le, integer-refused, near-mag, biased-lt, sum-fits, sum-is}
+use Rattle.cell.proofs.value.Cell.{the-type}
+use Rattle.cell.specs.declared.value.Cell.{Cell}
+use Rattle.cell.specs.declared.value.Cell.the-variants.{Null, Int, Str, Binary, Unknown}
+use Rattle.cell.specs.Handed.{handedNumber}
+use Rattle.cell.specs.Cells.{integer, referenceNumber}
+use Rattle.cell.specs.inner.Forms.{integerStored, referenceStored, binaryStored}
+use Rattle.cell.specs.inner.Signed.{biased}
+use Rattle.cell.proofs.Cases.{not-integer, not-reference, not-binary}
+use Rattle.cell.proofs.Cells.{Good}
+use Rattle.cell.proofs.Halves.{lt-or-le, integer-refused, near-mag, biased-lt, sum-fits, sum-is}
 use Rattle.table.specs.inner.Strides.{Judged, Numbered}
 
 -- what is refused was not given

@@ -13,14 +13,14 @@ use lib.Seq.{getD-take, length-take-le, slice-cons}
 use Rattle.common.specs.Choice.{if_then_else_}
 use Rattle.common.specs.Lists.{_over_, overAt}
 use Rattle.common.specs.Answers.{Place, Answer, gives, refused, onGiven, refusalOf}
-use Rattle.column_type.specs.declared.form.ColumnType.{ColumnType}
-use Rattle.column_type.specs.declared.form.ColumnType.the-variants.{Int16, Int32, Str, Binary}
+use Rattle.cell.specs.declared.form.ColumnType.{ColumnType}
+use Rattle.cell.specs.declared.form.ColumnType.the-variants.{Int16, Int32, Str, Binary}
 use Rattle.column.specs.declared.column.Column.{Column}
-use Rattle.column_type.specs.Forms.{soundType}
+use Rattle.cell.specs.Forms.{soundType}
 use Rattle.column.specs.Columns.{building, finished}
-use Rattle.column_type.specs.Cells.{width}
-use Rattle.column_type.specs.Forms.{formFor, formAnswer}
-use Rattle.column_type.proofs.Cells.{width-le}
+use Rattle.cell.specs.Cells.{width}
+use Rattle.cell.specs.Forms.{formFor, formAnswer}
+use Rattle.cell.proofs.Cells.{width-le}
 use Rattle.table.specs.declared.layout.Table.{Table}
 use Rattle.table.specs.Layout.{columnsOf, typesOf, eachAt, soundColumn, soundColumns, onColumns}
 use Rattle.table.specs.Rows.{rowSize, typeAt}

@@ -7,7 +7,7 @@ use native.Mathlib.Omega.{arith}
 use lib.ListN.{take, drop}
 use lib.Seq.{getD-take, getD-drop}
 use Rattle.little_endian.specs.Numbers.{numberAt as numberIn}
-use Rattle.column_type.specs.declared.form.CellForm.{CellForm}
+use Rattle.cell.specs.declared.form.CellForm.{CellForm}
 use Rattle.table.specs.inner.Strides.{formWidth}
 
 pub part-number : (w k : ℕ) (s : List ℕ) (at i : ℕ) → i + w ≤ k → numberIn w (take k (drop at s)) i ≡ numberIn w s (at + i)

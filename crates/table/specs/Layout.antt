@@ -9,10 +9,10 @@ use Rattle.common.specs.Sizes.{maxColumns}
 use Rattle.common.specs.Lists.{_over_}
 use Rattle.common.specs.Answers.{Answer, gives, refused, nowhere, onGiven, outcome}
 use Rattle.common.specs.Refusals.{refusedBy}
-use Rattle.column_type.specs.declared.form.ColumnType.{ColumnType}
-use Rattle.column_type.specs.declared.form.ColumnType.the-variants.{Int16}
+use Rattle.cell.specs.declared.form.ColumnType.{ColumnType}
+use Rattle.cell.specs.declared.form.ColumnType.the-variants.{Int16}
 use Rattle.column.specs.declared.column.Column.{Column}
-use Rattle.column_type.specs.Forms.{soundType}
+use Rattle.cell.specs.Forms.{soundType}
 use Rattle.column.specs.Columns.{building, finished, bitsColumn}
 use Rattle.table.specs.declared.layout.Table.{Table}
 use Rattle.table.specs.declared.layout.Laid.{Laid}

@@ -8,8 +8,8 @@ use lib.IntN.{ℤ, pos, negsuc}
 use lib.ListN.{length, replicate}
 use Rattle.common.specs.Answers.{Answer, gives, refused, nowhere, column, cell}
 use Rattle.common.specs.Lists.{_over_}
-use Rattle.column_type.specs.declared.form.ColumnType.{ColumnType}
-use Rattle.column_type.specs.declared.form.ColumnType.the-variants.{Int16, Str}
+use Rattle.cell.specs.declared.form.ColumnType.{ColumnType}
+use Rattle.cell.specs.declared.form.ColumnType.the-variants.{Int16, Str}
 use Rattle.column.specs.Columns.{building, finished}
 use Rattle.table.specs.declared.layout.Table.{Table}
 use Rattle.table.specs.Layout.{unused, noTable, bitfieldsOutcome, columnsOutcome, typesOf}

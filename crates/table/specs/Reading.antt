@@ -10,7 +10,7 @@ use Rattle.common.specs.Lists.{_over_}
 use Rattle.common.specs.Answers.{Answer, gives, refused, nowhere, onGiven, outcome}
 use Rattle.common.specs.Refusals.{refusedBy}
 use Rattle.order.specs.Order.{cellFits}
-use Rattle.value.specs.Kinds.{cellAs}
+use Rattle.cell.specs.Kinds.{cellAs}
 use Rattle.table.specs.declared.layout.Table.{Table}
 use Rattle.table.specs.declared.layout.Counted.{Counted}
 use Rattle.table.specs.declared.layout.Counted.the-variants.{Count, Refused}

@@ -7,9 +7,9 @@ use lib.ListN.{length, take, getD}
 use Rattle.common.specs.Choice.{if_then_else_, _=?_}
 use Rattle.common.specs.Lists.{joined, from, total}
 use Rattle.little_endian.specs.Numbers.{numberAt}
-use Rattle.column_type.specs.declared.form.ColumnType.{ColumnType}
-use Rattle.column_type.specs.declared.form.ColumnType.the-variants.{Int16}
-use Rattle.column_type.specs.Cells.{width, unstored}
+use Rattle.cell.specs.declared.form.ColumnType.{ColumnType}
+use Rattle.cell.specs.declared.form.ColumnType.the-variants.{Int16}
+use Rattle.cell.specs.Cells.{width, unstored}
 
 -- "Row size is the sum of widths"
 abbrev pub rowSize : List ColumnType → Bool → ℕ

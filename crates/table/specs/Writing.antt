@@ -9,8 +9,8 @@ use Rattle.common.specs.Lists.{joined, from}
 use Rattle.common.specs.Answers.{Answer, gives, cell, onGiven, each, outcome, writtenTo}
 use Rattle.order.specs.Order.{bulkFits}
 use Rattle.little_endian.specs.Numbers.{bytesOf}
-use Rattle.column_type.specs.declared.form.ColumnType.{ColumnType}
-use Rattle.column_type.specs.Cells.{width, stored}
+use Rattle.cell.specs.declared.form.ColumnType.{ColumnType}
+use Rattle.cell.specs.Cells.{width, stored}
 use Rattle.table.specs.declared.layout.Table.{Table}
 use Rattle.table.specs.Layout.{onColumns, typesOf}
 use Rattle.table.specs.Rows.{typeAt}

@@ -1,9 +1,9 @@
 // One column's cells, judged row by row.
 use crate::stride::Stride;
-use column_type::CellForm;
-use column_type::Stored;
+use cell::Cell;
+use cell::CellForm;
+use cell::Stored;
 use order::Fits;
-use value::Cell;
 ghost use mathlib.Core.Path.{_≡_};
 ghost use lib.ListN.{length};
 ghost use Rattle.common.specs.Lists.{from};

@@ -1,6 +1,6 @@
 // One column's cells, read: each goes to its place among those of all.
 use crate::stride::Stride;
-use column_type::CellForm;
+use cell::CellForm;
 ghost use mathlib.Core.Path.{_≡_};
 ghost use lib.ListN.{length};
 ghost use Rattle.table.specs.inner.Strides.{Held, kindsRead, numbersRead};

@@ -1,15 +1,15 @@
 // One column's cells, all of which can be stored, written row by row from the front of an output on.
 use crate::stride::Stride;
-use column_type::CellForm;
-use value::Cell;
+use cell::Cell;
+use cell::CellForm;
 ghost use mathlib.Core.Path.{_≡_};
 ghost use mathlib.Core.Bool.{Bool};
 ghost use Prim.Native.Nat.{_≤_};
 ghost use lib.IntN.{natAbs};
 ghost use lib.ListN.{length};
 ghost use Rattle.common.specs.Lists.{_over_};
-ghost use Rattle.value.specs.Handed.{handedNumber};
-ghost use Rattle.column_type.specs.inner.Forms.{integerStored, referenceStored, binaryStored};
+ghost use Rattle.cell.specs.Handed.{handedNumber};
+ghost use Rattle.cell.specs.inner.Forms.{integerStored, referenceStored, binaryStored};
 ghost use Rattle.table.specs.inner.Columns.{plain};
 ghost use Rattle.table.specs.inner.Strides.{Storable, formBytes, formStored, Judged, Numbered};
 

@@ -1,8 +1,8 @@
 // The layout of a table, its judge, and the arrays that its readers and writers go by.
+use cell::CellForm;
+use cell::FormOf;
 use column::Column;
 use column::ColumnMade;
-use column_type::CellForm;
-use column_type::FormOf;
 use common::Refusal;
 use common::sizes::MAX_COLUMNS;
 use order::Fits;
@@ -10,7 +10,7 @@ ghost use mathlib.Core.Path.{_≡_};
 ghost use Prim.Native.Nat.{_<_, _≤_};
 ghost use Rattle.common.specs.Answers.{refusalOf};
 ghost use Rattle.order.specs.Order.{fitsAs};
-ghost use Rattle.column_type.specs.Forms.{formFor};
+ghost use Rattle.cell.specs.Forms.{formFor};
 ghost use Rattle.table.specs.Layout.{typesOf, soundColumns, noTable, tableMadeAs, bitfieldsOutcome, columnsOutcome};
 ghost use Rattle.table.specs.Rows.{typeAt};
 ghost use Rattle.table.specs.inner.Layout.{Sound, layoutOf};

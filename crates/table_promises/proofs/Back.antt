@@ -15,10 +15,10 @@ use Rattle.common.specs.Lists.{_over_, joined, from}
 use Rattle.common.specs.Answers.{Place, nowhere, Answer, gives, refused, cell, each, refusalOf, onGiven, outcome}
 use Rattle.little_endian.specs.Numbers.{bytesOf, numberAt}
 use Rattle.little_endian.proofs.Laws.{read-back, length-bytes}
-use Rattle.column_type.specs.declared.form.ColumnType.{ColumnType}
-use Rattle.column_type.specs.declared.form.ColumnType.the-variants.{Int16, Int32, Str, Binary}
+use Rattle.cell.specs.declared.form.ColumnType.{ColumnType}
+use Rattle.cell.specs.declared.form.ColumnType.the-variants.{Int16, Int32, Str, Binary}
 use Rattle.column.specs.declared.column.Column.{Column}
-use Rattle.column_type.specs.Cells.{width, stored, unstored}
+use Rattle.cell.specs.Cells.{width, stored, unstored}
 use Rattle.order.specs.Order.{bulkFits}
 use Rattle.order.proofs.Cells.{bulk}
 use Rattle.table.specs.declared.layout.Table.{Table}

@@ -9,14 +9,14 @@ use lib.IntN.{ℤ, pos, negsuc, _-ℤ_}
 use lib.Signed.{mag}
 use Rattle.common.specs.Choice.{if_then_else_}
 use Rattle.common.specs.Answers.{Place, gives, refused}
-use Rattle.column_type.specs.declared.form.ColumnType.{ColumnType}
-use Rattle.column_type.specs.declared.form.ColumnType.the-variants.{Int16, Int32, Str, Binary}
+use Rattle.cell.specs.declared.form.ColumnType.{ColumnType}
+use Rattle.cell.specs.declared.form.ColumnType.the-variants.{Int16, Int32, Str, Binary}
 use Rattle.column.specs.Check.{isBinary}
-use Rattle.column_type.specs.Cells.{width, integer, stored, unstored, integerCell, referenceCell, binaryCell, referenceNumber}
-use Rattle.column_type.specs.inner.Signed.{biased, unbiased}
-use Rattle.column_type.proofs.Halves.{sub-is, near-mag, near-unbiased, biased-lt, biased-some, unbiased-biased, biased-unbiased, integer-given}
-use Rattle.column_type.proofs.Numbers.{integer-number, reference-number}
-use Rattle.column_type.proofs.Cells.{reference-any, reference-short}
+use Rattle.cell.specs.Cells.{width, integer, stored, unstored, integerCell, referenceCell, binaryCell, referenceNumber}
+use Rattle.cell.specs.inner.Signed.{biased, unbiased}
+use Rattle.cell.proofs.Halves.{sub-is, near-mag, near-unbiased, biased-lt, biased-some, unbiased-biased, biased-unbiased, integer-given}
+use Rattle.cell.proofs.Numbers.{integer-number, reference-number}
+use Rattle.cell.proofs.Cells.{reference-any, reference-short}
 use Rattle.table_promises.specs.Promises.{readsAs, CellReadBack}
 
 abbrev nullOr : Bool → ℕ × ℤ → ℕ × ℤ

@@ -13,10 +13,10 @@ use Rattle.common.specs.Lists.{joined, from}
 use Rattle.common.specs.Answers.{Place, Answer, gives, refused, cell, each, refusalOf, onGiven, outcome}
 use Rattle.order.specs.Order.{bulkFits}
 use Rattle.little_endian.specs.Numbers.{bytesOf}
-use Rattle.column_type.specs.declared.form.ColumnType.{ColumnType}
-use Rattle.column_type.specs.declared.form.ColumnType.the-variants.{Int16, Int32, Str, Binary}
-use Rattle.column_type.specs.Cells.{width, stored}
-use Rattle.column_type.proofs.Numbers.{integer-number}
+use Rattle.cell.specs.declared.form.ColumnType.{ColumnType}
+use Rattle.cell.specs.declared.form.ColumnType.the-variants.{Int16, Int32, Str, Binary}
+use Rattle.cell.specs.Cells.{width, stored}
+use Rattle.cell.proofs.Numbers.{integer-number}
 use Rattle.table.specs.declared.layout.Table.{Table}
 use Rattle.table.specs.Layout.{typesOf}
 use Rattle.table.specs.Rows.{typeAt}

@@ -10,8 +10,8 @@ use lib.ListN.{length, take, drop}
 use lib.Seq.{take-add, drop-drop, take-at, drop-append-add}
 use Rattle.common.specs.Lists.{joined, from}
 use Rattle.common.specs.Answers.{Answer, gives, each, refusalOf}
-use Rattle.column_type.specs.declared.form.ColumnType.{ColumnType}
-use Rattle.column_type.specs.Cells.{width}
+use Rattle.cell.specs.declared.form.ColumnType.{ColumnType}
+use Rattle.cell.specs.Cells.{width}
 use Rattle.table.specs.Rows.{rowSize, typeAt}
 use Rattle.table.specs.inner.Columns.{givenBytes, plain}
 use Rattle.table.proofs.Each.{fine-first}

@@ -13,10 +13,10 @@ use Rattle.common.specs.Answers.{gives, cell}
 use Rattle.little_endian.specs.Numbers.{numberAt}
 use Rattle.little_endian.specs.Promises.{AreBytes}
 use Rattle.little_endian.proofs.Laws.{number-lt, write-back}
-use Rattle.column_type.specs.declared.form.ColumnType.{ColumnType}
-use Rattle.column_type.specs.declared.form.ColumnType.the-variants.{Int16, Int32, Str, Binary}
+use Rattle.cell.specs.declared.form.ColumnType.{ColumnType}
+use Rattle.cell.specs.declared.form.ColumnType.the-variants.{Int16, Int32, Str, Binary}
 use Rattle.column.specs.Check.{isBinary}
-use Rattle.column_type.specs.Cells.{width}
+use Rattle.cell.specs.Cells.{width}
 use Rattle.table.specs.declared.layout.Table.{Table}
 use Rattle.table.specs.Layout.{typesOf}
 use Rattle.table.specs.Rows.{rowSize, typeAt, cellStart, cellAt, rowByRow}

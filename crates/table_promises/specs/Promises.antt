@@ -10,10 +10,10 @@ use Rattle.common.specs.Lists.{_over_}
 use Rattle.common.specs.Answers.{Place, gives, refused, cell, refusalOf}
 use Rattle.little_endian.specs.Numbers.{numberAt}
 use Rattle.little_endian.specs.Promises.{AreBytes}
-use Rattle.column_type.specs.declared.form.ColumnType.{ColumnType}
-use Rattle.column_type.specs.declared.form.ColumnType.the-variants.{Int16, Int32, Str, Binary}
+use Rattle.cell.specs.declared.form.ColumnType.{ColumnType}
+use Rattle.cell.specs.declared.form.ColumnType.the-variants.{Int16, Int32, Str, Binary}
 use Rattle.column.specs.Check.{isBinary}
-use Rattle.column_type.specs.Cells.{stored, unstored}
+use Rattle.cell.specs.Cells.{stored, unstored}
 use Rattle.table.specs.declared.layout.Table.{Table}
 use Rattle.table.specs.Layout.{typesOf, soundColumns}
 use Rattle.table.specs.Rows.{rowSize, typeAt, cellStart, rowByRow}

@@ -1,10 +1,10 @@
 // create and remove, in rooms for two entries and three bytes.
+use cell::ValueRef;
 use pool_values::Created;
 use pool_values::Value;
 use stringpool::Dropped;
 use stringpool::StringPool;
 use stringpool::StringRef;
-use value::ValueRef;
 
 struct Lent {
     pool: StringPool,

@@ -1,10 +1,10 @@
 // to_value and to_text, and a new text where 65,535 short references are in use.
+use cell::ValueRef;
 use pool_values::Created;
 use pool_values::Shown;
 use pool_values::Value;
 use stringpool::StringPool;
 use stringpool::StringRef;
-use value::ValueRef;
 
 fn pool_of(num_strings: usize) -> StringPool {
     StringPool {

@@ -4,8 +4,8 @@ use mathlib.Core.Bool.{Bool, false}
 use Rattle.common.specs.Choice.{_<?_}
 use Rattle.common.specs.Sizes.{maxString}
 use Rattle.common.specs.Answers.{Answer, gives, refused, column}
-use Rattle.column_type.specs.declared.form.ColumnType.{ColumnType}
-use Rattle.column_type.specs.declared.form.ColumnType.the-variants.{Int16, Int32, Str, Binary}
+use Rattle.cell.specs.declared.form.ColumnType.{ColumnType}
+use Rattle.cell.specs.declared.form.ColumnType.the-variants.{Int16, Int32, Str, Binary}
 use Rattle.column.specs.declared.bits.Read.{Read}
 use Rattle.column.specs.declared.bits.Read.the-variants as read
 

@@ -6,10 +6,10 @@ use Rattle.stringpool.specs.declared.drops.Dropped.{Dropped}
 use Rattle.stringpool.specs.declared.drops.Dropped.the-variants as dropped
 use Rattle.stringpool.specs.declared.shows.Showable.{Showable}
 use Rattle.stringpool.specs.declared.shows.Showable.the-variants as showable
-use Rattle.value.specs.declared.ValueRef.{ValueRef}
-use Rattle.value.specs.declared.ValueRef.the-variants as ref
-use Rattle.value.specs.declared.Value.{Value}
-use Rattle.value.specs.declared.Value.the-variants as plain
+use Rattle.cell.specs.declared.value.ValueRef.{ValueRef}
+use Rattle.cell.specs.declared.value.ValueRef.the-variants as ref
+use Rattle.cell.specs.declared.value.Value.{Value}
+use Rattle.cell.specs.declared.value.Value.the-variants as plain
 use Rattle.pool_values.specs.declared.Created.{Created}
 use Rattle.pool_values.specs.declared.Created.the-variants as created
 

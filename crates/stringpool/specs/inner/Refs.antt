@@ -5,7 +5,7 @@ use lib.Dec.{ltb}
 use Rattle.common.specs.Choice.{if_then_else_}
 use Rattle.stringpool.specs.Refs.{referenceTo}
 use Rattle.stringpool.specs.declared.refs.EntryPlace.{EntryPlace}
-use Rattle.string_ref.specs.declared.StringRef.{StringRef}
+use Rattle.common.specs.declared.string_ref.StringRef.{StringRef}
 use Rattle.stringpool.specs.declared.refs.Placed.{Placed}
 use Rattle.stringpool.specs.declared.refs.Placed.the-variants.{At, Outside}
 

@@ -7,11 +7,11 @@ use lib.ListN.{length, getD, set}
 use Rattle.common.specs.Lists.{from}
 use Rattle.common.specs.Answers.{Place, Answer, gives, cell, onGiven, each, refusalOf}
 use Rattle.little_endian.specs.Numbers.{numberAt, bytesOf}
-use Rattle.value.specs.declared.Cell.{Cell}
-use Rattle.value.specs.Handed.{handedKind, handedNumber}
-use Rattle.column_type.specs.declared.form.CellForm.{CellForm}
-use Rattle.column_type.specs.Cells.{width, stored, unstored}
-use Rattle.column_type.specs.Forms.{typeIn, longIn}
+use Rattle.cell.specs.declared.value.Cell.{Cell}
+use Rattle.cell.specs.Handed.{handedKind, handedNumber}
+use Rattle.cell.specs.declared.form.CellForm.{CellForm}
+use Rattle.cell.specs.Cells.{width, stored, unstored}
+use Rattle.cell.specs.Forms.{typeIn, longIn}
 use Rattle.table.specs.declared.stride.Stride.{Stride}
 
 -- the width of a form

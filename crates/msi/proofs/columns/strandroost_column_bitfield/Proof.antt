@@ -1,7 +1,7 @@
 use lib.IntN.{ℤ}
 use Rattle.common.specs.Answers.{Answer}
-use Rattle.msi_forms.specs.Pools.{referenceIn}
-use Rattle.msi_forms.specs.Columns.{onColumn}
+use Rattle.c_types.specs.Pools.{referenceIn}
+use Rattle.c_types.specs.Columns.{onColumn}
 use Rattle.column.specs.Columns.{bitfieldAnswer}
 use mathlib.Core.Path.{ap, _∙_}
 use borrow.Author.Needs.{needs}

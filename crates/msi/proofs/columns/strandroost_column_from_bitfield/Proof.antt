@@ -1,4 +1,4 @@
-use Rattle.msi_forms.specs.Columns.{columnIn}
+use Rattle.c_types.specs.Columns.{columnIn}
 use Rattle.column.specs.declared.column.ColumnBuilder.{ColumnBuilder}
 use Rattle.column.specs.Columns.{bitsColumn}
 use mir.ValLaws.{toZ-ofZ}

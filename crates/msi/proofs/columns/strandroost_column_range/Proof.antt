@@ -3,7 +3,7 @@ use lib.IntN.{ℤ}
 use mir.Syntax.{w32}
 use mir.Val.{SFits, toZ, ofZ}
 use mir.ValLaws.{toZ-ofZ}
-use Rattle.msi_forms.specs.Columns.{builderOut}
+use Rattle.c_types.specs.Columns.{builderOut}
 use Rattle.column.specs.Columns.{withRange}
 use Rattle.column.specs.declared.column.ColumnBuilder.{ColumnBuilder}
 use borrow.Author.Needs.{needs}

@@ -1,12 +1,12 @@
-use Rattle.msi_forms.specs.Values.{plainIn}
+use Rattle.c_types.specs.Values.{plainIn}
 use mathlib.Core.Bool.{Bool}
 use Rattle.common.specs.Answers.{Answer, column}
-use Rattle.msi_forms.specs.Answers.{flagIn}
-use Rattle.msi_forms.specs.Columns.{onColumn}
-use Rattle.msi_forms.specs.Unknown.{onKind}
+use Rattle.c_types.specs.Answers.{flagIn}
+use Rattle.c_types.specs.Columns.{onColumn}
+use Rattle.c_types.specs.Unknown.{onKind}
 use Rattle.column.specs.declared.column.Column.{Column}
 use Rattle.column.specs.Check.{checkAnswer}
-use Rattle.value.specs.declared.Value.{Value}
+use Rattle.cell.specs.declared.value.Value.{Value}
 use denote.Ref.{now}
 use mir.ValLaws.{toZ-ofZ}
 use mir.Val.{SFits, toZ, ofZ}

@@ -1,5 +1,5 @@
 use borrow.Author.Needs.{needs}
-use Rattle.msi_forms.specs.Answers.{nameIn}
+use Rattle.c_types.specs.Answers.{nameIn}
 use Rattle.msi.proofs.Handed.{hands}
 use Rattle.msi.proofs.names.strandroost_decode.Statement.{statement}
 use Rattle.msi.proofs.names.strandroost_decode.Tie as tie

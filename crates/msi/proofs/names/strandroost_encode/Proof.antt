@@ -1,5 +1,5 @@
 use borrow.Author.Needs.{needs}
-use Rattle.msi_forms.specs.Answers.{countIn}
+use Rattle.c_types.specs.Answers.{countIn}
 use Rattle.msi.proofs.Handed.{hands}
 use Rattle.msi.proofs.names.strandroost_encode.Statement.{statement}
 use Rattle.msi.proofs.names.strandroost_encode.Tie as tie

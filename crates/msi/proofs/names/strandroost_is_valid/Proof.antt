@@ -1,6 +1,6 @@
 use borrow.Author.Needs.{needs}
 use mathlib.Core.Path.{ap, _∙_}
-use Rattle.msi_forms.specs.Answers.{flagIn}
+use Rattle.c_types.specs.Answers.{flagIn}
 use Rattle.msi.proofs.names.strandroost_is_valid.Statement.{statement}
 use Rattle.msi.proofs.names.strandroost_is_valid.Tie as tie
 

@@ -6,7 +6,7 @@ use mir.Val.{SFits, toZ, ofZ}
 use mir.Syntax.{w32}
 use lib.IntN.{ℤ}
 use mathlib.Core.Path.{_≡_, ap, _∙_}
-use Rattle.msi_forms.specs.Pools.{stateIn, poolIn}
+use Rattle.c_types.specs.Pools.{stateIn, poolIn}
 use Rattle.msi.proofs.Handed.{hands}
 use borrow.Author.Needs.{needs}
 use Rattle.msi.proofs.pools.strandroost_decref.Statement.{statement}

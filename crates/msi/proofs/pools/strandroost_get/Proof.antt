@@ -1,5 +1,5 @@
 use Rattle.msi.proofs.Gets.{got-refused, got-given}
-use Rattle.msi_forms.specs.Pools.{stateIn}
+use Rattle.c_types.specs.Pools.{stateIn}
 use Rattle.stringpool.specs.declared.pool.StringPool.{StringPool}
 use Rattle.stringpool.specs.Show.{showAnswer, orEmpty, showableAs}
 use Rattle.stringpool.specs.Pool.{rooms}

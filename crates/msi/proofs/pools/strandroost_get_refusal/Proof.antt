@@ -6,10 +6,10 @@ use mir.ValLaws.{toZ-ofZ}
 use denote.Ref.{now}
 use Rattle.stringpool.specs.Pool.{rooms}
 use Rattle.stringpool.specs.declared.pool.StringPool.{StringPool}
-use Rattle.msi_forms.specs.Pools.{stateIn}
+use Rattle.c_types.specs.Pools.{stateIn}
 use Rattle.common.specs.Answers.{refusalOf}
 use Rattle.stringpool.specs.Show.{showAnswer}
-use Rattle.msi_forms.specs.Answers.{refusalIn}
+use Rattle.c_types.specs.Answers.{refusalIn}
 use Rattle.msi.proofs.Gets.{refusal-kept}
 use borrow.Author.Needs.{needs}
 use Rattle.msi.proofs.pools.strandroost_get_refusal.Statement.{statement}

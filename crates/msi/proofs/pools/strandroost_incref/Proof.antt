@@ -1,4 +1,4 @@
-use Rattle.msi_forms.specs.Pools.{takenIn}
+use Rattle.c_types.specs.Pools.{takenIn}
 use Rattle.msi.proofs.Handed.{hands}
 use borrow.Author.Needs.{needs}
 use Rattle.msi.proofs.pools.strandroost_incref.Statement.{statement}

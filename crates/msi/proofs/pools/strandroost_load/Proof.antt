@@ -1,4 +1,4 @@
-use Rattle.msi_forms.specs.Pools.{poolIn}
+use Rattle.c_types.specs.Pools.{poolIn}
 use Rattle.msi.proofs.Handed.{hands}
 use borrow.Author.Needs.{needs}
 use Rattle.msi.proofs.pools.strandroost_load.Statement.{statement}

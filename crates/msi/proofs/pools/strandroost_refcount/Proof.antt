@@ -1,4 +1,4 @@
-use Rattle.msi_forms.specs.Pools.{stateIn}
+use Rattle.c_types.specs.Pools.{stateIn}
 use Rattle.stringpool.specs.Pool.{rooms}
 use denote.Ref.{now}
 use Rattle.stringpool.specs.Show.{refcountAnswer}
@@ -7,7 +7,7 @@ use mir.Val.{SFits, toZ, ofZ}
 use mir.Syntax.{w32}
 use lib.IntN.{ℤ}
 use mathlib.Core.Path.{_≡_, ap, _∙_}
-use Rattle.msi_forms.specs.Answers.{countIn}
+use Rattle.c_types.specs.Answers.{countIn}
 use borrow.Author.Needs.{needs}
 use Rattle.msi.proofs.pools.strandroost_refcount.Statement.{statement}
 use Rattle.msi.proofs.pools.strandroost_refcount.Tie as tie

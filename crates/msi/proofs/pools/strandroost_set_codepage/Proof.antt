@@ -1,4 +1,4 @@
-use Rattle.msi_forms.specs.Pools.{poolIn}
+use Rattle.c_types.specs.Pools.{poolIn}
 use mathlib.Core.Path.{ap, _∙_}
 use borrow.Author.Needs.{needs}
 use Rattle.msi.proofs.pools.strandroost_set_codepage.Statement.{statement}

@@ -1,11 +1,11 @@
-use Rattle.string_ref.specs.Refs.{reference}
+use Rattle.common.specs.Refs.{reference}
 use Rattle.common.specs.Answers.{nowhere}
 use mir.ValLaws.{toZ-ofZ}
 use mir.Val.{SFits, toZ, ofZ}
 use mir.Syntax.{w32}
 use lib.IntN.{ℤ}
 use mathlib.Core.Path.{_≡_, ap, _∙_}
-use Rattle.msi_forms.specs.Pools.{referenceIn}
+use Rattle.c_types.specs.Pools.{referenceIn}
 use borrow.Author.Needs.{needs}
 use Rattle.msi.proofs.pools.strandroost_string_ref.Statement.{statement}
 use Rattle.msi.proofs.pools.strandroost_string_ref.Tie as tie

@@ -1,4 +1,4 @@
-use Rattle.msi_forms.specs.Answers.{countIn}
+use Rattle.c_types.specs.Answers.{countIn}
 use Rattle.msi.proofs.Handed.{hands}
 use borrow.Author.Needs.{needs}
 use Rattle.msi.proofs.pools.strandroost_write_data.Statement.{statement}

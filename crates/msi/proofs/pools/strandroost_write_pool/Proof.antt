@@ -3,7 +3,7 @@ use Rattle.stringpool.specs.Write.{writeOutcome, poolBytes}
 use Rattle.stringpool.specs.Pool.{rooms}
 use denote.Ref.{now}
 use mathlib.Core.Path.{ap, _∙_}
-use Rattle.msi_forms.specs.Answers.{countIn}
+use Rattle.c_types.specs.Answers.{countIn}
 use Rattle.msi.proofs.Handed.{hands}
 use borrow.Author.Needs.{needs}
 use Rattle.msi.proofs.pools.strandroost_write_pool.Statement.{statement}

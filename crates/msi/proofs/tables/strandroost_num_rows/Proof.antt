@@ -1,8 +1,8 @@
 use mathlib.Core.Path.{ap, _∙_}
 use Prim.Native.Nat.{ℕ}
 use Rattle.common.specs.Answers.{Answer}
-use Rattle.msi_forms.specs.Answers.{countIn}
-use Rattle.msi_forms.specs.Tables.{onTable}
+use Rattle.c_types.specs.Answers.{countIn}
+use Rattle.c_types.specs.Tables.{onTable}
 use borrow.Author.Needs.{needs}
 use Rattle.msi.proofs.tables.strandroost_num_rows.Statement.{statement}
 use Rattle.msi.proofs.tables.strandroost_num_rows.Tie as tie

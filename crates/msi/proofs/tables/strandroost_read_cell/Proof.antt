@@ -2,7 +2,7 @@ use mathlib.Core.Path.{ap, _∙_}
 use Prim.Native.Nat.{ℕ}
 use lib.IntN.{ℤ}
 use Rattle.common.specs.Answers.{Answer}
-use Rattle.msi_forms.specs.Tables.{onTable, cellIn}
+use Rattle.c_types.specs.Tables.{onTable, cellIn}
 use borrow.Author.Needs.{needs}
 use Rattle.msi.proofs.tables.strandroost_read_cell.Statement.{statement}
 use Rattle.msi.proofs.tables.strandroost_read_cell.Tie as tie

@@ -2,8 +2,8 @@ use mathlib.Core.Path.{ap, _∙_}
 use Prim.Native.Nat.{ℕ}
 use Rattle.common.specs.Answers.{Answer}
 use Rattle.rows.specs.Next.{Next}
-use Rattle.msi_forms.specs.Answers.{answeredAs}
-use Rattle.msi_forms.specs.Tables.{onTable, stepIn}
+use Rattle.c_types.specs.Answers.{answeredAs}
+use Rattle.c_types.specs.Tables.{onTable, stepIn}
 use borrow.Author.Needs.{needs}
 use Rattle.msi.proofs.tables.strandroost_rows_next.Statement.{statement}
 use Rattle.msi.proofs.tables.strandroost_rows_next.Tie as tie

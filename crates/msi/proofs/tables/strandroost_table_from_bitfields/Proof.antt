@@ -1,5 +1,5 @@
 use mathlib.Core.Path.{ap, _∙_}
-use Rattle.msi_forms.specs.Tables.{laidIn}
+use Rattle.c_types.specs.Tables.{laidIn}
 use borrow.Author.Needs.{needs}
 use Rattle.msi.proofs.tables.strandroost_table_from_bitfields.Statement.{statement}
 use Rattle.msi.proofs.tables.strandroost_table_from_bitfields.Tie as tie

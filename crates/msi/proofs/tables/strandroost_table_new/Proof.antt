@@ -1,5 +1,5 @@
 use mathlib.Core.Path.{ap, _∙_}
-use Rattle.msi_forms.specs.Tables.{newIn}
+use Rattle.c_types.specs.Tables.{newIn}
 use borrow.Author.Needs.{needs}
 use Rattle.msi.proofs.tables.strandroost_table_new.Statement.{statement}
 use Rattle.msi.proofs.tables.strandroost_table_new.Tie as tie

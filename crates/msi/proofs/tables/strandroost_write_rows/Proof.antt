@@ -1,7 +1,7 @@
 use Prim.Native.Nat.{ℕ}
 use Rattle.common.specs.Answers.{Answer}
-use Rattle.msi_forms.specs.Answers.{countIn}
-use Rattle.msi_forms.specs.Tables.{onTable}
+use Rattle.c_types.specs.Answers.{countIn}
+use Rattle.c_types.specs.Tables.{onTable}
 use Rattle.msi.proofs.Handed.{hands}
 use borrow.Author.Needs.{needs}
 use Rattle.msi.proofs.tables.strandroost_write_rows.Statement.{statement}

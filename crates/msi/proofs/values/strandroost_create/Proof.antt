@@ -6,11 +6,11 @@ use mir.ValLaws.{toZ-ofZ}
 use denote.Ref.{now}
 use Rattle.stringpool.specs.Pool.{rooms}
 use Rattle.stringpool.specs.declared.pool.StringPool.{StringPool}
-use Rattle.value.specs.declared.Value.{Value}
-use Rattle.value.specs.Kinds.{valueKind, valueNumber}
+use Rattle.cell.specs.declared.value.Value.{Value}
+use Rattle.cell.specs.Kinds.{valueKind, valueNumber}
 use Rattle.pool_values.specs.Pooled.{createAnswer, createOutcome}
-use Rattle.msi_forms.specs.Pools.{stateIn}
-use Rattle.msi_forms.specs.Values.{plainIn, createdIn}
+use Rattle.c_types.specs.Pools.{stateIn}
+use Rattle.c_types.specs.Values.{plainIn, createdIn}
 use Rattle.msi.proofs.UnknownKinds.{hands-kind, create-kept}
 use borrow.Author.Needs.{needs}
 use Rattle.msi.proofs.values.strandroost_create.Statement.{statement}

@@ -6,11 +6,11 @@ use mir.ValLaws.{toZ-ofZ}
 use denote.Ref.{now}
 use Rattle.stringpool.specs.Pool.{rooms}
 use Rattle.stringpool.specs.declared.pool.StringPool.{StringPool}
-use Rattle.msi_forms.specs.Pools.{stateIn, poolIn}
-use Rattle.value.specs.declared.ValueRef.{ValueRef}
-use Rattle.value.specs.Kinds.{refKind, refNumber}
+use Rattle.c_types.specs.Pools.{stateIn, poolIn}
+use Rattle.cell.specs.declared.value.ValueRef.{ValueRef}
+use Rattle.cell.specs.Kinds.{refKind, refNumber}
 use Rattle.pool_values.specs.Pooled.{removeAnswer, removeOutcome}
-use Rattle.msi_forms.specs.Values.{valueIn}
+use Rattle.c_types.specs.Values.{valueIn}
 use Rattle.msi.proofs.UnknownKinds.{hands-kind, remove-kept}
 use borrow.Author.Needs.{needs}
 use Rattle.msi.proofs.values.strandroost_remove.Statement.{statement}

@@ -10,13 +10,13 @@ use Rattle.common.specs.Answers.{Answer, nowhere, onGiven}
 use Rattle.stringpool.specs.Pool.{Rooms, rooms}
 use Rattle.stringpool.specs.Write.{writeAnswer}
 use Rattle.stringpool.specs.declared.pool.StringPool.{StringPool}
-use Rattle.msi_forms.specs.Pools.{stateIn}
-use Rattle.value.specs.declared.ValueRef.{ValueRef}
-use Rattle.value.specs.Kinds.{refKind, refNumber}
+use Rattle.c_types.specs.Pools.{stateIn}
+use Rattle.cell.specs.declared.value.ValueRef.{ValueRef}
+use Rattle.cell.specs.Kinds.{refKind, refNumber}
 use Rattle.pool_values.specs.Pooled.{shownAnswer, textAnswer, shownAs}
 use Rattle.stringpool.specs.Show.{orEmpty}
-use Rattle.msi_forms.specs.Unknown.{onKind}
-use Rattle.msi_forms.specs.Values.{valueIn}
+use Rattle.c_types.specs.Unknown.{onKind}
+use Rattle.c_types.specs.Values.{valueIn}
 use Rattle.msi.proofs.Gets.{written, got-refused, got-given, refusal-said, given-said}
 use Rattle.msi.proofs.UnknownKinds.{kind-refused, kind-known, text-unknown}
 use borrow.Author.Needs.{needs}

@@ -6,14 +6,14 @@ use mir.ValLaws.{toZ-ofZ}
 use denote.Ref.{now}
 use Rattle.stringpool.specs.Pool.{rooms}
 use Rattle.stringpool.specs.declared.pool.StringPool.{StringPool}
-use Rattle.value.specs.declared.ValueRef.{ValueRef}
-use Rattle.value.specs.Kinds.{refKind, refNumber}
+use Rattle.cell.specs.declared.value.ValueRef.{ValueRef}
+use Rattle.cell.specs.Kinds.{refKind, refNumber}
 use Rattle.pool_values.specs.Pooled.{shownAnswer}
 use Prim.Native.Nat.{ℕ}
 use Rattle.common.specs.Answers.{Answer, nowhere}
-use Rattle.msi_forms.specs.Tables.{cellIn}
-use Rattle.msi_forms.specs.Unknown.{onKind}
-use Rattle.msi_forms.specs.Values.{valueIn}
+use Rattle.c_types.specs.Tables.{cellIn}
+use Rattle.c_types.specs.Unknown.{onKind}
+use Rattle.c_types.specs.Values.{valueIn}
 use borrow.Author.Needs.{needs}
 use Rattle.msi.proofs.values.strandroost_to_value.Statement.{statement}
 use Rattle.msi.proofs.values.strandroost_to_value.Tie as tie

@@ -3,7 +3,7 @@ use borrow.Author.Needs.{needs}
 use lib.IntN.{ℤ}
 use mir.Syntax.{w32}
 use mir.Val.{toZ, ofZ}
-use Rattle.string_ref.proofs.Limits as limits
+use Rattle.common.proofs.Limits as limits
 use Rattle.stringpool.proofs.Signed.{Within, within}
 use Rattle.replay.proofs.pools.given.Statement.{statement}
 use Rattle.replay.proofs.pools.given.Tie as tie

@@ -1,4 +1,4 @@
-use Rattle.column_type.proofs.Halves.{widens, sum-fits, sum-is, biased-lt}
+use Rattle.cell.proofs.Halves.{widens, sum-fits, sum-is, biased-lt}
 use lib.Dec.{lit≤}
 use lib.IntN.{natAbs}
 use native.Mathlib.Omega.{arith}

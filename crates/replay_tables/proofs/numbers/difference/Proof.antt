@@ -1,5 +1,5 @@
-use Rattle.column_type.proofs.Halves.{sub-fits, sub-back, unbiased-fits}
-use Rattle.column_type.specs.inner.Signed.{unbiased}
+use Rattle.cell.proofs.Halves.{sub-fits, sub-back, unbiased-fits}
+use Rattle.cell.specs.inner.Signed.{unbiased}
 use lib.Dec.{lit≤}
 use mir.Facts.{toZ-ofZ}
 use mir.Syntax.{w32}

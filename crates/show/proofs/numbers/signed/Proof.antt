@@ -1,7 +1,7 @@
 -- `signed` is safe: a negative number's distance from 0 fits. Assumes nothing.
 use Rattle.show.proofs.Negative.{distance}
-use Rattle.column_type.proofs.Cells.{from-zero}
-use Rattle.column_type.proofs.Halves.{widens, widened}
+use Rattle.cell.proofs.Cells.{from-zero}
+use Rattle.cell.proofs.Halves.{widens, widened}
 use Prim.Native.Nat.{suc}
 use lib.Signed.{mag}
 use mir.Facts.{toZ-ofZ, toZ-pos}

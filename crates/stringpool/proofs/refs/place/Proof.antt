@@ -5,7 +5,7 @@ use lib.IntN.{ℤ}
 use mir.Syntax.{w32}
 use mir.Val.{toZ, ofZ}
 use mir.ValLaws.{toZ-ofZ}
-use Rattle.string_ref.specs.Refs.{madeAs}
+use Rattle.common.specs.Refs.{madeAs}
 use Rattle.stringpool.specs.inner.Refs.{placeOf}
 use Rattle.stringpool.proofs.Signed.{Within, outside, within}
 use Rattle.stringpool.proofs.refs.place.Statement.{statement}

@@ -3,7 +3,7 @@ use lib.IntN.{ℤ}
 use mir.Syntax.{w32}
 use mir.ValLaws.{toZ-ofZ}
 use Rattle.common.specs.Answers.{nowhere, refusalOf}
-use Rattle.string_ref.specs.Refs.{reference, madeAs}
+use Rattle.common.specs.Refs.{reference, madeAs}
 use borrow.Author.Needs.{needs}
 use Rattle.stringpool.proofs.shows.in_range.Statement.{statement}
 use Rattle.stringpool.proofs.shows.in_range.Tie as tie

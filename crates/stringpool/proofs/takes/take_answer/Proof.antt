@@ -2,7 +2,7 @@ use native.Mathlib.Omega.{arith}
 use mathlib.Core.Path.{sym, ap, ap₂, subst, _∙_}
 use Rattle.stringpool.specs.inner.Take.{takenBy, Numbered}
 use Rattle.stringpool.specs.declared.pool.StringPool.{StringPool}
-use Rattle.string_ref.specs.declared.StringRef.{StringRef}
+use Rattle.common.specs.declared.string_ref.StringRef.{StringRef}
 use Rattle.common.specs.Answers.{gives}
 use borrow.Author.Needs.{needs}
 use Rattle.stringpool.proofs.takes.take_answer.Statement.{statement}

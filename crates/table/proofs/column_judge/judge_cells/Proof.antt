@@ -2,9 +2,9 @@
 use Rattle.table.proofs.Strides.{next-le, next-is}
 use Rattle.table.proofs.Each.{each-turn, each-stop, each-end}
 use Rattle.table.specs.inner.Strides.{cellNumber}
-use Rattle.column_type.proofs.Numbers.{handed-stored}
-use Rattle.column_type.specs.Forms.{typeIn, longIn, storedAs}
-use Rattle.value.specs.Handed.{cellOf}
+use Rattle.cell.proofs.Numbers.{handed-stored}
+use Rattle.cell.specs.Forms.{typeIn, longIn, storedAs}
+use Rattle.cell.specs.Handed.{cellOf}
 use Rattle.common.specs.Answers.{refusalOf, each, cell}
 use Rattle.common.specs.Lists.{from}
 use mir.Facts.{toZ-ofZ}

@@ -4,7 +4,7 @@ use Rattle.table.proofs.Strides.{next-le, next-is}
 use Rattle.table.proofs.Strides.{stride-turn, stride-done}
 use Rattle.table.specs.inner.Strides.{formWidth}
 use Rattle.table.specs.inner.Strides.{strided, formCell}
-use Rattle.value.specs.Kinds.{cellAs}
+use Rattle.cell.specs.Kinds.{cellAs}
 use Rattle.common.specs.Lists.{from}
 use mir.Facts.{toZ-ofZ}
 use mir.Syntax.{w32}

@@ -1,6 +1,6 @@
 -- `column_write::integer_number` meets its contract: a judged integer is near enough to 0 for n + half to fit. Assumes nothing.
 use Rattle.table.proofs.Judged.{else-integer, near, half-fits, half-sum, half-bits}
-use Rattle.column_type.proofs.Halves.{widens, integer-given}
+use Rattle.cell.proofs.Halves.{widens, integer-given}
 use mir.Syntax.{w32}
 use mir.Val.{SFits}
 use lib.IntN.{natAbs}

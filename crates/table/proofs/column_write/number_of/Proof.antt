@@ -1,6 +1,6 @@
 -- `column_write::number_of` meets its contract: in each arm the form is known, and the cell's case says its kind. Assumes nothing.
 use Rattle.table.proofs.Judged.{judged-by, reference-numbered}
-use Rattle.column_type.proofs.Forms.{integer-by-kind, reference-by-kind, binary-by-kind}
+use Rattle.cell.proofs.Forms.{integer-by-kind, reference-by-kind, binary-by-kind}
 use Rattle.common.specs.Answers.{gives}
 use mathlib.Core.Bool.{true, false}
 use mathlib.Core.Path.{sym, ap, _∙_}

@@ -1,6 +1,6 @@
 -- `column_write::reference_number` meets its contract: a judged reference is not negative. Assumes nothing.
 use Rattle.table.proofs.Judged.{else-reference, referred}
-use Rattle.column_type.proofs.Cells.{good-bits}
+use Rattle.cell.proofs.Cells.{good-bits}
 use mir.Facts.{toZ-ofZ}
 use mir.Syntax.{w32}
 use borrow.Author.Needs.{needs}

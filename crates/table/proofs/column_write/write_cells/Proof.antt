@@ -4,9 +4,9 @@ use Rattle.table.proofs.Plain.{plain-turn, plain-end}
 use Rattle.table.proofs.Strides.{next-le, next-is}
 use Rattle.table.specs.inner.Columns.{givenBytes, plain}
 use Rattle.table.specs.inner.Strides.{formWidth, cellNumber, formBytes, formStored}
-use Rattle.column_type.proofs.Numbers.{handed-stored}
-use Rattle.column_type.specs.Forms.{typeIn, longIn}
-use Rattle.value.specs.Handed.{cellOf}
+use Rattle.cell.proofs.Numbers.{handed-stored}
+use Rattle.cell.specs.Forms.{typeIn, longIn}
+use Rattle.cell.specs.Handed.{cellOf}
 use Rattle.little_endian.proofs.Laws.{length-bytes, written}
 use Rattle.little_endian.specs.Numbers.{bytesOf}
 use Rattle.common.proofs.Parts.{over-next, over-none, exact-over}

@@ -2,7 +2,7 @@
 use Rattle.table.proofs.Layouts.{noColumn, type-at, sound-at}
 use Rattle.table.specs.Rows.{typeAt}
 use Rattle.table.specs.Layout.{typesOf}
-use Rattle.column_type.specs.Forms.{formFor, formAs, formAnswer}
+use Rattle.cell.specs.Forms.{formFor, formAs, formAnswer}
 use Rattle.common.specs.Answers.{gives}
 use lib.ListN.{length, getD, length-map}
 use native.Mathlib.Omega.{arith}

@@ -1,7 +1,7 @@
 -- `layout::judge` meets its contract: what the columns that are left say, is what all say. Assumes nothing.
 use Rattle.table.proofs.Layouts.{noColumn, columns-next, columns-done, at-turn, at-stop, form-said}
 use Rattle.table.specs.Layout.{columnsOf, eachAt, soundColumn}
-use Rattle.column_type.specs.Forms.{formAs, formAnswer}
+use Rattle.cell.specs.Forms.{formAs, formAnswer}
 use Rattle.common.specs.Answers.{refusalOf}
 use lib.ListN.{length, getD, drop, length-map}
 use borrow.Author.Tests.{lt-ltb, le-ltb}

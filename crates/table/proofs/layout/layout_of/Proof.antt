@@ -4,9 +4,9 @@ use Rattle.table.specs.inner.Layout.{widthsOf, startsFrom, zeros}
 use Rattle.table.specs.declared.layout.Table.{Table}
 use Rattle.table.specs.Rows.{rowSize, typeAt}
 use Rattle.table.specs.Layout.{columnsOf, typesOf}
-use Rattle.column_type.proofs.Cells.{width-le, form-width}
-use Rattle.column_type.specs.Cells.{width}
-use Rattle.column_type.specs.declared.form.ColumnType.{ColumnType}
+use Rattle.cell.proofs.Cells.{width-le, form-width}
+use Rattle.cell.specs.Cells.{width}
+use Rattle.cell.specs.declared.form.ColumnType.{ColumnType}
 use Rattle.column.specs.declared.column.Column.{Column}
 use Rattle.common.proofs.Parts.{over-none}
 use Rattle.common.specs.Lists.{overAt, _over_}

@@ -5,8 +5,8 @@ use Rattle.table.specs.inner.Layout.{rowsFor}
 use Rattle.table.specs.Rows.{rowSize, typeAt}
 use Rattle.table.specs.Layout.{typesOf}
 use Rattle.table.specs.declared.layout.Layout.{Layout}
-use Rattle.column_type.proofs.Cells.{width-le, form-width, form-unstored}
-use Rattle.column_type.specs.Cells.{width}
+use Rattle.cell.proofs.Cells.{width-le, form-width, form-unstored}
+use Rattle.cell.specs.Cells.{width}
 use lib.ListN.{length, length-map, getD, take}
 use native.Mathlib.Omega.{arith}
 use native.Mathlib.Nat.{mul-le-mul-right}

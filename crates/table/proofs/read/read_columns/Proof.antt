@@ -10,9 +10,9 @@ use Rattle.table.specs.inner.Columns.{rowsFrom}
 use Rattle.table.specs.Rows.{rowSize, typeAt, cellAt}
 use Rattle.table.specs.Layout.{typesOf}
 use Rattle.table.specs.declared.layout.Layout.{Layout}
-use Rattle.column_type.proofs.Cells.{form-width}
-use Rattle.column_type.specs.Forms.{formFor}
-use Rattle.column_type.specs.Cells.{width}
+use Rattle.cell.proofs.Cells.{form-width}
+use Rattle.cell.specs.Forms.{formFor}
+use Rattle.cell.specs.Cells.{width}
 use lib.ListN.{length, length-map, getD, take}
 use lib.IntN.{ℤ, pos}
 use native.Mathlib.Omega.{arith}

@@ -1,5 +1,5 @@
 -- `write::judge_columns` meets its contract: what the columns that are left say, is what all say. Assumes nothing.
-use Rattle.column_type.specs.Forms.{formFor}
+use Rattle.cell.specs.Forms.{formFor}
 use Rattle.table.proofs.Column.{column-judged, table-judged}
 use Rattle.table.proofs.Layouts.{types-count}
 use Rattle.table.proofs.Each.{each-turn, each-stop, each-end}

@@ -8,9 +8,9 @@ use Rattle.table.specs.inner.Columns.{givenBytes, plain}
 use Rattle.table.specs.Writing.{Cells, columnBytes}
 use Rattle.table.specs.Rows.{rowSize, typeAt}
 use Rattle.table.specs.Layout.{typesOf}
-use Rattle.column_type.proofs.Cells.{form-width}
-use Rattle.column_type.specs.Forms.{formFor}
-use Rattle.column_type.specs.Cells.{width}
+use Rattle.cell.proofs.Cells.{form-width}
+use Rattle.cell.specs.Forms.{formFor}
+use Rattle.cell.specs.Cells.{width}
 use Rattle.common.proofs.Parts.{over-none, lent-turn, length-tail}
 use Rattle.common.specs.Answers.{Answer, gives, refusalOf, each}
 use Rattle.common.specs.Lists.{_over_, overAt, from}

@@ -1,0 +1,6 @@
+pub mod Cells
+pub mod Forms
+pub mod Points
+pub mod inner
+pub mod Kinds
+pub mod Handed

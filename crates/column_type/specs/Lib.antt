@@ -1,4 +1,0 @@
-pub mod Cells
-pub mod Forms
-pub mod Points
-pub mod inner

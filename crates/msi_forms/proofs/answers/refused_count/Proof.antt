@@ -1,6 +1,0 @@
-use borrow.Author.Needs.{needs}
-use Rattle.msi_forms.proofs.answers.refused_count.Statement.{statement}
-use Rattle.msi_forms.proofs.answers.refused_count.Tie as tie
-
-pub refused-count-spec : {M : Type 1} → statement M
-refused-count-spec = tie.close (tie.spec (λ c κs. search needs) (λ c. simp (c .told .ensures)))

@@ -76,7 +76,7 @@ absent() {
     things "$@" | while IFS= read -r pair; do there "${pair%=*}" || echo "${pair##*=}"; done | sort -u | tr '\n' ' '
 }
 
-# have PART..: installs by name what the parts miss, which takes root. Says what cannot be had, once, and is then false.
+# have PART..: installs by name what the parts miss, which takes root. Names what is not available, once, and is then false.
 asked=
 have() {
     wanted=
@@ -92,7 +92,7 @@ have() {
         apt-get -qq update > "$made/apt.log" 2>&1 || say "apt-get update failed: $(tail -n 1 "$made/apt.log")"
         for package in $wanted; do
             DEBIAN_FRONTEND=noninteractive apt-get -qq install -y --no-install-recommends "$package" >> "$made/apt.log" 2>&1 ||
-                say "CANNOT BE HAD: $package (apt-get install $package failed)"
+                say "NOT AVAILABLE: $package (apt-get install $package failed)"
         done
     fi
     [ -z "$(absent "$@")" ]

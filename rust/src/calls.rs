@@ -371,13 +371,13 @@ impl ColumnParts {
     }
 }
 
-/// Encodes a name into the front of `out`: how many units that are. Refused with 22, 7.
+/// Encodes a name into the front of `out`: how many units that is. Refused with 22, 7.
 pub fn encode(name: &[u16], is_table: bool, out: &mut [u16]) -> Result<usize> {
     // SAFETY: the call stays within these slices, as above.
     counted(unsafe { c::strandroost_encode(name.as_ptr(), name.len(), is_table, out.as_mut_ptr(), out.len()) })
 }
 
-/// Decodes a stored name into the front of `out`: how many units that are, and whether it is a table's. Refused with 22, 7.
+/// Decodes a stored name into the front of `out`: how many units that is, and whether it is a table's. Refused with 22, 7.
 pub fn decode(stored: &[u16], out: &mut [u16]) -> Result<(usize, bool)> {
     // SAFETY: the call stays within these slices, as above.
     let answer = unsafe { c::strandroost_decode(stored.as_ptr(), stored.len(), out.as_mut_ptr(), out.len()) };
@@ -449,7 +449,7 @@ pub fn get_refusal(state: State, rooms: Rooms<'_>, number: i32) -> Result<()> {
     given(refused, ())
 }
 
-/// Copies the text of a reference to the front of `out`: how many bytes that are. Refused with 22, 24, 8, 7.
+/// Copies the text of a reference to the front of `out`: how many bytes that is. Refused with 22, 24, 8, 7.
 pub fn get(state: State, rooms: Rooms<'_>, number: i32, out: &mut [u8]) -> Result<usize> {
     // SAFETY: the call stays within these slices, as above.
     counted(unsafe {
@@ -483,7 +483,7 @@ pub fn decref(state: State, rooms: RoomsMut<'_>, number: i32) -> Result<State> {
     })
 }
 
-/// Writes the pool stream to the front of `out`: how many bytes that are. Refused with 22, 24, 7.
+/// Writes the pool stream to the front of `out`: how many bytes that is. Refused with 22, 24, 7.
 pub fn write_pool(state: State, rooms: Rooms<'_>, out: &mut [u8]) -> Result<usize> {
     // SAFETY: the call stays within these slices, as above.
     counted(unsafe {
@@ -494,7 +494,7 @@ pub fn write_pool(state: State, rooms: Rooms<'_>, out: &mut [u8]) -> Result<usiz
     })
 }
 
-/// Writes the data stream to the front of `out`: how many bytes that are. Refused with 22, 24, 7.
+/// Writes the data stream to the front of `out`: how many bytes that is. Refused with 22, 24, 7.
 pub fn write_data(state: State, rooms: Rooms<'_>, out: &mut [u8]) -> Result<usize> {
     // SAFETY: the call stays within these slices, as above.
     counted(unsafe {
@@ -543,7 +543,7 @@ pub fn to_value(cell: KindAndNumber, state: State, rooms: Rooms<'_>) -> Result<K
     given(answer.refused, KindAndNumber { kind: answer.kind, number: answer.number })
 }
 
-/// Copies the text of a cell to the front of `out`, none of a cell that is no reference: how many bytes that are. Refused with
+/// Copies the text of a cell to the front of `out`, none of a cell that is no reference: how many bytes that is. Refused with
 /// 22, 24, 16 or 8, 7.
 pub fn to_text(cell: KindAndNumber, state: State, rooms: Rooms<'_>, out: &mut [u8]) -> Result<usize> {
     // SAFETY: the call stays within these slices, as above.
@@ -695,7 +695,7 @@ pub fn read_rows(layout: &Layout, stream: &[u8], kinds: &mut [u8], numbers: &mut
     })
 }
 
-/// Writes cells handed over row by row: how many bytes that are. Refused with 20, 19 or 16, 14, 23, the cells' 16, 17, 8, 18, then 7.
+/// Writes cells handed over row by row: how many bytes that is. Refused with 20, 19 or 16, 14, 23, the cells' 16, 17, 8, 18, then 7.
 pub fn write_rows(layout: &Layout, rows: usize, kinds: &[u8], numbers: &[i32], out: &mut [u8]) -> Result<usize> {
     // SAFETY: the call stays within these slices, as above.
     counted(unsafe {

@@ -2,7 +2,7 @@
 
 use crate::refusal::{Place, Refusal, Result};
 
-/// Makes a room so long. False where it is that long already, or memory cannot be had.
+/// Makes a room so long. False where it is that long already, or there is no memory for it.
 pub(crate) fn widen<T: Copy + Default>(room: &mut Vec<T>, size: usize) -> bool {
     let more = size.saturating_sub(room.len());
     let had = more > 0 && room.try_reserve_exact(more).is_ok();
@@ -18,7 +18,7 @@ pub(crate) fn cut<T>(room: &mut Vec<T>, size: usize) {
     room.shrink_to(size);
 }
 
-/// Empty, with memory for so many; 7 where it cannot be had.
+/// Empty, with memory for so many; 7 where there is none.
 pub(crate) fn spare<T>(size: usize) -> Result<Vec<T>> {
     let mut room = Vec::new();
     match room.try_reserve_exact(size) {
@@ -27,7 +27,7 @@ pub(crate) fn spare<T>(size: usize) -> Result<Vec<T>> {
     }
 }
 
-/// An output of so many places; 7 where memory for it cannot be had.
+/// An output of so many places; 7 where there is no memory for it.
 pub(crate) fn output<T: Copy + Default>(size: usize) -> Result<Vec<T>> {
     let mut out = Vec::new();
     match size == 0 || widen(&mut out, size) {

@@ -118,7 +118,7 @@ pub struct StringPool {
     lengths: Vec<u32>,
     counts: Vec<u16>,
     text: Vec<u8>,
-    /// Where each text begins and ends: found by one pass when it is first asked for, and forgotten when texts move.
+    /// Where each text begins and ends: found by one pass when it is first needed, and forgotten when texts move.
     bounds: OnceLock<Vec<u32>>,
 }
 
@@ -279,14 +279,14 @@ impl StringPool {
         had
     }
 
-    /// Room for an entry more, or for twice as many. False where it cannot be had.
+    /// Room for an entry more, or for twice as many. False where there is no memory for it.
     fn grow_entries(&mut self) -> bool {
         let needed = self.state.num_strings + 1;
         let twice = needed.max(2 * self.lengths.len()).clamp(FEW, MAX_ENTRIES);
         self.widen_entries(twice) || self.widen_entries(needed)
     }
 
-    /// Room for a text more, or for twice as many bytes. False where it cannot be had.
+    /// Room for a text more, or for twice as many bytes. False where there is no memory for it.
     fn grow_text(&mut self, text: usize) -> bool {
         // A text that needs room goes into the first free entry, whose bytes go, or into a new one.
         let free = self.counts().iter().position(|count| *count == 0);

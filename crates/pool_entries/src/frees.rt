@@ -44,7 +44,7 @@ fn first(counts: &[u16], from: usize, to: usize) -> usize
     to
 }
 
-// The same of at most 1,024 entries, at once where none is free.
+// The first free entry of from..to, at most 1,024, found at once where none is free; with none, `to`.
 pub(crate) fn first_free(counts: &[u16], from: usize, to: usize) -> usize
     requires { ⌜ (from ≤ to) × (to ≤ length (now counts)) × (to ≤ from + 1024) ⌝ }
     ensures { λ r. ⌜ FreeAt (now (counts .entry)) from to r ⌝ }

@@ -89,7 +89,7 @@ pub(crate) fn used_after(
     Used::Unsound
 }
 
-// Whether each free entry, of n, has at most 65,535 bytes: asked only where some entry has more.
+// Whether each free entry, of n, has at most 65,535 bytes: looked at only where some entry has more.
 fn all_small(n: usize, lengths: &[u32], counts: &[u16]) -> bool
     requires { ⌜ (n ≤ length (now lengths)) × (n ≤ length (now counts)) ⌝ }
     ensures { λ r. ⌜ r ≡ allSmall (take n (now (lengths .entry))) (take n (now (counts .entry))) ⌝ }

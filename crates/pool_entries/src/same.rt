@@ -60,7 +60,7 @@ fn same(a: &[u8], b: &[u8]) -> bool
     same_from(a, b, i)
 }
 
-// The same where the bytes before `from` are the same.
+// Whether two texts of the same length are the same bytes from `from` on.
 fn same_from(a: &[u8], b: &[u8], from: usize) -> bool
     requires { ⌜ (length (now a) ≡ length (now b)) × (from ≤ length (now a)) ⌝ }
     ensures { λ r. ⌜ r ≡ sameBytes (drop from (now (a .entry))) (drop from (now (b .entry))) ⌝ }
@@ -115,7 +115,7 @@ fn same_at(count: u16, text: &[u8], at: usize, new: &[u8]) -> bool
     is_equal(count, &text[at..end], new)
 }
 
-// The same, where `word` is new's end: most texts are told apart by theirs.
+// What `same_at` says, with `word`, new's end, looked at first: most texts are told apart by theirs.
 pub(crate) fn equal_at(count: u16, text: &[u8], at: usize, new: &[u8], word: u64) -> bool
     requires { ⌜ (at + length (now new) < 2 ^ 64) × Ends (now new) word ⌝ }
     ensures { λ r. ⌜ (at + length (now (new .entry)) ≤ length (now (text .entry))

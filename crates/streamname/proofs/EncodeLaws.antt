@@ -92,7 +92,7 @@ module _ (name : List ℕ) (at : ℕ) (here : at < length name) where
             moves = omega arith;
           }
 
--- what is tallied, one packed unit further: a pair leaves what is allowed as it is, any other unit is asked
+-- what is tallied, one packed unit further: a pair leaves what is allowed as it is, any other unit is judged
 module _ (name : List ℕ) (m : Tally) (p : Packed) (so-far : Tallied name m) (f : Front name (m .at) p) where
   counted-on : (m .units + 1) + length (encoded (drop (m .at + p .used) name)) ≡ length (encoded name)
   counted-on = omega (arith, so-far .counted, ap length (f .packs))

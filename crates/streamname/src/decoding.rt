@@ -52,7 +52,7 @@ pub(crate) fn decoded_len(stored: &[u16]) -> usize
     units
 }
 
-// The same, but no unit is looked at where two places for each are there anyhow, within the size of a name.
+// How many units the undone name has, or more, but no unit is looked at where two places for each are there in any case, within the size of a name.
 pub(crate) fn decoded_bound(stored: &[u16], places: usize) -> usize
     ensures { λ r. ⌜ Bound (length (decoded (now (stored .entry)))) places r × Bound (length (decoded (now (stored .entry)))) maxName r ⌝ }
 {

@@ -73,7 +73,7 @@ pub(crate) struct Tally {
     pub at: usize,
 }
 
-// Goes on while letters come in pairs, and one unit further. Letters are allowed, so only what stands alone is asked. A pair stays in the
+// Goes on while letters come in pairs, and one unit further. Letters are allowed, so only what stands alone is judged. A pair stays in the
 // loop and anything else leaves it, so that the processor can predict where the next unit stands; a step of one or two would make it wait
 // for the table.
 fn tally_run(name: &[u16], from: Tally, numbers: &[u8; 128]) -> Tally
@@ -114,7 +114,7 @@ fn tally_units(name: &[u16]) -> Tally
     all
 }
 
-// The same of what `encode` writes: the prefix counts.
+// How many units `encode` writes, the prefix too, and whether all units of the name are allowed.
 pub(crate) fn tally_stored(name: &[u16], is_table: bool) -> Tally
     ensures { λ r. ⌜ (r .units ≡ length (encodedName (now (name .entry)) «is_table»)) × (r .allowed ≡ every allowed (now (name .entry))) ⌝ }
 {
@@ -129,7 +129,7 @@ pub(crate) fn tally_stored(name: &[u16], is_table: bool) -> Tally
     all
 }
 
-// How many units `encode` writes, or more, but no unit is looked at where a place for each and for the prefix is there anyhow.
+// How many units `encode` writes, or more, but no unit is looked at where a place for each and for the prefix is there in any case.
 pub(crate) fn encoded_bound(name: &[u16], is_table: bool, places: usize) -> usize
     ensures { λ r. ⌜ Bound (length (encodedName (now (name .entry)) «is_table»)) places r ⌝ }
 {

@@ -153,7 +153,7 @@ const NUMBERS: [u8; 128] = [
     64,
 ];
 
-// The table as a value, which the loops over a name lend to `to_b64`. The compiler lays a constant array down anew in the function that
+// The table as a value, which the loops over a name lend to `to_b64`. The compiler stores a constant array anew in each call of the function that
 // names it: so once for a name, and not for each unit.
 pub(crate) fn numbers() -> [u8; 128]
     ensures { λ r. ⌜ r ≡ letterNumbers ⌝ }
@@ -161,7 +161,7 @@ pub(crate) fn numbers() -> [u8; 128]
     NUMBERS
 }
 
-// The number of a letter. A unit past the table is told before it is looked up, and never cut to fit.
+// The number of a letter. A unit past the table is tested for before the look-up, and never cut to fit.
 pub(crate) fn to_b64(unit: u16, numbers: &[u8; 128]) -> Packing
     requires { ⌜ now numbers ≡ letterNumbers ⌝ }
     ensures { λ r. ⌜ letterOf r ≡ toB64 unit ⌝ }

@@ -60,7 +60,7 @@ whereOf why.OverSize = nowhere
 whereOf why.CellCount = nowhere
 whereOf why.Unsound = nowhere
 
--- the code's place in the paper's terms
+-- the code's place in document 01's terms
 abbrev pub placeAs : CodePlace → Place
 placeAs Nowhere = nowhere
 placeAs (Column c) = column c

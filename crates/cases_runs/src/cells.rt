@@ -1,35 +1,60 @@
 // Cases e to j and m.
+use crate::said;
 use cases::Bytes;
 use column::ColumnMade;
+use column::ColumnType;
 use table::Counted;
 
+fn four(s: &[u8], i: usize) {
+    if i <= 4 {
+        said::byte_at(s, i);
+        said::byte_at(s, i + 1);
+        said::byte_at(s, i + 2);
+        said::byte_at(s, i + 3);
+    }
+}
+
+// At most eight bytes: no case has more.
 fn front(out: &[u8], n: usize) {
     if n <= out.len() {
-        show::bytes(&out[0..n]);
+        four(&out[0..n], 0);
+        four(&out[0..n], 4);
     }
 }
 
 fn written(label: &[u8], bytes: Bytes) {
-    show::words(label);
+    said::words(label);
     let out = bytes.out;
     let answer = bytes.answer;
     match answer {
         Counted::Count(n) => front(&out, n),
-        Counted::Refused(r) => show::refusal(r),
+        Counted::Refused(r) => said::reason(r),
     }
-    show::newline();
+    said::newline();
+}
+
+fn column_type(t: ColumnType) {
+    match t {
+        ColumnType::Int16 => said::words(b"Int16"),
+        ColumnType::Int32 => said::words(b"Int32"),
+        ColumnType::Str(max) => {
+            said::words(b"Str ");
+            said::number(max as u64);
+        }
+        ColumnType::Binary => said::words(b"Binary"),
+    }
 }
 
 fn from_bits(label: &[u8], made: ColumnMade) {
-    show::words(label);
+    said::words(label);
     match made {
         ColumnMade::Made(x) => {
             let coltype = x.coltype;
-            show::column_type(coltype);
+            column_type(coltype);
         }
-        ColumnMade::Refused(r) => show::reason(r),
+        ColumnMade::Refused(r) => said::reason(r),
     }
-    show::newline();
+    said::newline();
 }
 
 pub(crate) fn cases() {

@@ -3,6 +3,7 @@
 mod cells;
 mod names;
 mod pools;
+mod said;
 
 fn main() {
     names::cases();

@@ -1,22 +1,31 @@
 // Cases a to d.
+use crate::said;
 use cases::Units;
 use streamname::Encoded;
 
+// At most four units: no case has more.
+fn units(s: &[u16]) {
+    said::unit_at(s, 0);
+    said::unit_at(s, 1);
+    said::unit_at(s, 2);
+    said::unit_at(s, 3);
+}
+
 fn front(out: &[u16], n: usize) {
     if n <= out.len() {
-        show::units(&out[0..n]);
+        units(&out[0..n]);
     }
 }
 
-fn stored(label: &[u8], units: Units) {
-    show::words(label);
-    let out = units.out;
-    let answer = units.answer;
+fn stored(label: &[u8], asked: Units) {
+    said::words(label);
+    let out = asked.out;
+    let answer = asked.answer;
     match answer {
         Encoded::Units(n) => front(&out, n),
-        Encoded::Refused(r) => show::refusal(r),
+        Encoded::Refused(r) => said::reason(r),
     }
-    show::newline();
+    said::newline();
 }
 
 pub(crate) fn cases() {

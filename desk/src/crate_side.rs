@@ -182,7 +182,9 @@ impl CrateSide {
                 }
             }
             Command::Write(layout, rows, cells) => self.write(&layout, rows, &cells)?,
-            Command::Lend(_) | Command::Out(_) | Command::Held | Command::Pool(..) => return Err(Stop::Outside),
+            Command::Lend(_) | Command::Out(_) | Command::Hold(_) | Command::Held(_) | Command::Pool(..) | Command::Ref(_) => {
+                return Err(Stop::Outside)
+            }
         })
     }
 

@@ -254,6 +254,8 @@ static void tables(void)
     struct strandroost_table table = strandroost_table_from_bitfields(bits, 2, false).table;
     struct strandroost_count written = strandroost_write_rows(table, 2, kinds, 4, numbers, 4, stream, sizeof stream);
     expect("case m: 01 80 FF 7F 03 00 00 00", written.value == 8 && !memcmp(stream, expected, 8));
+    expect("a kind fewer than numbers: 23", strandroost_write_rows(table, 2, kinds, 3, numbers, 4, stream, sizeof stream).refused.number == 23);
+    expect("a number fewer than kinds: 23", strandroost_write_rows(table, 2, kinds, 4, numbers, 3, stream, sizeof stream).refused.number == 23);
     written = strandroost_read_rows(table, stream, sizeof stream, read, 4, found, 4);
     expect("read again, the ninth byte ignored", written.value == 4 && !memcmp(read, kinds, 4) && !memcmp(found, numbers, sizeof found));
     expect("two rows", strandroost_num_rows(table, stream, sizeof stream).value == 2);

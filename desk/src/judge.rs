@@ -1,7 +1,7 @@
 //! Two answers side by side, and where there is one, the tool's own reading as a third voice. Each difference is noted at its
 //! place, and each departure that docs/DIFFERENCES.md names by its rule.
 use crate::findings::{Findings, Rule};
-use crate::language::{bytes_of, put_bytes};
+use crate::language::{bytes_of, put_bytes, repeated};
 use crate::layouts::Layout;
 use crate::reading::Pool;
 use crate::requests::Empty;
@@ -50,7 +50,11 @@ pub fn bytes_given(answer: &str) -> Option<Vec<u8>> {
 /// The rows and the list of an answer `ok ROWS LIST`.
 pub fn list_given(answer: &str) -> Option<(usize, Vec<&str>)> {
     let (rows, list) = answer.strip_prefix("ok ")?.split_once(' ')?;
-    let list = if list == "-" { Vec::new() } else { list.split(',').collect() };
+    let list = match repeated(list)? {
+        ("-", _) => Vec::new(),
+        (item, 1) => item.split(',').collect(),
+        (item, times) => vec![item; times],
+    };
     Some((rows.parse().ok()?, list))
 }
 

@@ -10,6 +10,12 @@ pub const MAX_COLUMNS: usize = 64;
 /// The most rows of a table.
 pub const MAX_ROWS: usize = 65_536;
 
+/// The most items that a word stands for by repetition: one more than a stream has bytes.
+const MAX_ITEMS: usize = 268_435_456;
+
+/// A word of an answer with more items than this, all equal, is written as `ITEM*N`.
+const WRITTEN_OUT: usize = 64;
+
 #[derive(Clone, Copy, Debug, PartialEq)]
 pub enum Cell {
     Null,
@@ -90,9 +96,21 @@ pub enum Command {
     Lend(Option<(usize, usize, usize)>),
     /// Places of an output; `None`: as many as suffice.
     Out(Option<usize>),
-    Held,
+    /// The first places of a room.
+    Hold(Room),
+    /// The last so many places of each room and output; `None`: all.
+    Held(Option<usize>),
     /// A state set by hand: entries, long references, code page.
     Pool(usize, bool, u32),
+    Ref(i32),
+}
+
+/// What the first places of a lent room hold.
+#[derive(Clone, Debug)]
+pub enum Room {
+    Lengths(Vec<u32>),
+    Counts(Vec<u16>),
+    Text(Vec<u8>),
 }
 
 #[derive(Clone, Copy, Debug, PartialEq)]
@@ -144,10 +162,32 @@ fn digit(character: u8) -> Option<u8> {
     }
 }
 
+/// A word and how often it stands: `WORD*N`, or once.
+pub fn repeated(word: &str) -> Option<(&str, usize)> {
+    match word.split_once('*') {
+        Some((word, times)) => Some((word, times.parse().ok()?)),
+        None => Some((word, 1)),
+    }
+}
+
+/// So many times over, unless that is too much.
+fn times_over<T: Copy>(items: Vec<T>, times: usize) -> Option<Vec<T>> {
+    match items.len().checked_mul(times)? {
+        _ if times == 1 => Some(items),
+        0..=MAX_ITEMS => Some(items.repeat(times)),
+        _ => None,
+    }
+}
+
 pub fn bytes_of(word: &str) -> Option<Vec<u8>> {
     if word == "-" {
         return Some(Vec::new());
     }
+    let (word, times) = repeated(word)?;
+    times_over(plain_bytes(word)?, times)
+}
+
+fn plain_bytes(word: &str) -> Option<Vec<u8>> {
     let digits = word.as_bytes();
     if digits.is_empty() || digits.len() % 2 != 0 {
         return None;
@@ -156,11 +196,12 @@ pub fn bytes_of(word: &str) -> Option<Vec<u8>> {
 }
 
 pub fn units_of(word: &str) -> Option<Vec<u16>> {
-    let bytes = bytes_of(word)?;
-    if bytes.len() % 2 != 0 {
-        return None;
+    if word == "-" {
+        return Some(Vec::new());
     }
-    Some(bytes.chunks_exact(2).map(|pair| u16::from_be_bytes([pair[0], pair[1]])).collect())
+    let (word, times) = repeated(word)?;
+    let bytes = plain_bytes(word).filter(|bytes| bytes.len() % 2 == 0)?;
+    times_over(bytes.chunks_exact(2).map(|pair| u16::from_be_bytes([pair[0], pair[1]])).collect(), times)
 }
 
 fn flag_of(word: &str) -> Option<bool> {
@@ -201,7 +242,8 @@ fn value_of(word: &str) -> Option<Value> {
         b'n' if rest.is_empty() => Some(Value::Null),
         b'b' if rest.is_empty() => Some(Value::Binary),
         b'i' => Some(Value::Int(rest.parse().ok()?)),
-        b't' => Some(Value::Text(bytes_of(rest)?)),
+        b't' if rest == "-" => Some(Value::Text(Vec::new())),
+        b't' => Some(Value::Text(plain_bytes(rest)?)),
         b'k' => handed_of(rest).map(|(kind, number)| Value::Handed(kind, number)),
         _ => None,
     }
@@ -250,11 +292,16 @@ fn layout_column(word: &str) -> Option<Made> {
     }
 }
 
-fn list_of<T>(word: &str, one: fn(&str) -> Option<T>) -> Option<Vec<T>> {
+fn list_of<T: Copy>(word: &str, one: fn(&str) -> Option<T>) -> Option<Vec<T>> {
+    let mut items = Vec::new();
     if word == "-" {
-        return Some(Vec::new());
+        return Some(items);
     }
-    word.split(',').map(one).collect()
+    for item in word.split(',') {
+        let (item, times) = repeated(item)?;
+        items.extend(times_over(vec![one(item)?], times)?);
+    }
+    Some(items)
 }
 
 /// A layout, by bits or by types: the two ways of making one.
@@ -304,7 +351,12 @@ pub fn command_of(line: &str) -> Option<Command> {
             Command::Lend(Some((lengths.parse().ok()?, counts.parse().ok()?, text.parse().ok()?)))
         }
         ["out", places] => Command::Out(room_of(places)?),
-        ["held"] => Command::Held,
+        ["hold", "lengths", numbers] => Command::Hold(Room::Lengths(list_of(numbers, |number| number.parse().ok())?)),
+        ["hold", "counts", numbers] => Command::Hold(Room::Counts(list_of(numbers, |number| number.parse().ok())?)),
+        ["hold", "text", bytes] => Command::Hold(Room::Text(bytes_of(bytes)?)),
+        ["held"] => Command::Held(None),
+        ["held", places] => Command::Held(Some(places.parse().ok()?)),
+        ["ref", number] => Command::Ref(number_of(number)?),
         ["pool", entries, long, page] => Command::Pool(entries.parse().ok()?, flag_of(long)?, page.parse().ok()?),
         _ => return None,
     })
@@ -400,6 +452,22 @@ pub fn put_list<T>(items: &[T], one: fn(&T, &mut String), out: &mut String) {
     }
 }
 
+/// A word of an answer: many items that are all equal are written as `ITEM*N`.
+fn put_word<T: PartialEq>(items: &[T], all: fn(&[T], &mut String), out: &mut String) {
+    match items {
+        [first, rest @ ..] if items.len() > WRITTEN_OUT && rest.iter().all(|item| item == first) => {
+            all(&items[..1], out);
+            out.push('*');
+            put_number(items.len() as i64, out);
+        }
+        _ => all(items, out),
+    }
+}
+
+fn put_numbers<T: Copy + Into<i64>>(numbers: &[T], out: &mut String) {
+    put_list(numbers, |number, out| put_number((*number).into(), out), out);
+}
+
 pub fn adler(bytes: &[u8]) -> u32 {
     let (mut a, mut b) = (1u32, 0u32);
     // 5,552 bytes are the most that neither sum overflows on.
@@ -433,13 +501,13 @@ fn put_words(numbers: &[i64], out: &mut String) {
 }
 
 fn put_held(held: &Held, out: &mut String) {
-    put_list(&held.lengths, |length, out| put_number((*length).into(), out), out);
+    put_word(&held.lengths, put_numbers, out);
     out.push(' ');
-    put_list(&held.counts, |count, out| put_number((*count).into(), out), out);
+    put_word(&held.counts, put_numbers, out);
     out.push(' ');
-    put_bytes(&held.text, out);
+    put_word(&held.text, put_bytes, out);
     out.push(' ');
-    put_bytes(&held.out, out);
+    put_word(&held.out, put_bytes, out);
 }
 
 impl Answer {
@@ -462,14 +530,14 @@ impl Answer {
 
     fn put_given(&self, out: &mut String) {
         match self {
-            Answer::Units(units) => put_units(units, out),
+            Answer::Units(units) => put_word(units, put_units, out),
             Answer::Decoded(table, units) => {
                 out.push_str(if *table { "1 " } else { "0 " });
-                put_units(units, out);
+                put_word(units, put_units, out);
             }
             Answer::Flag(flag) => out.push(if *flag { '1' } else { '0' }),
             Answer::Number(number) => put_number(*number as i64, out),
-            Answer::Bytes(bytes) => put_bytes(bytes, out),
+            Answer::Bytes(bytes) => put_word(bytes, put_bytes, out),
             Answer::Pool(page, long, entries) => {
                 put_number((*page).into(), out);
                 put_words(&[(*long).into(), *entries as i64], out);
@@ -487,12 +555,12 @@ impl Answer {
             Answer::Cells(rows, cells) => {
                 put_number(*rows as i64, out);
                 out.push(' ');
-                put_list(cells, put_cell, out);
+                put_word(cells, |cells, out| put_list(cells, put_cell, out), out);
             }
             Answer::Values(rows, values) => {
                 put_number(*rows as i64, out);
                 out.push(' ');
-                put_list(values, put_value, out);
+                put_word(values, |values, out| put_list(values, put_value, out), out);
             }
             Answer::Held(held) => put_held(held, out),
             _ => {}

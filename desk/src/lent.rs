@@ -1,5 +1,6 @@
 //! What the crate has no notion of: lent rooms and outputs, and the refusals that come of them. The port is held to the crate's
-//! answer for an output that suffices, to a small model of the pool in its rooms, and to a list of answers by document 01.
+//! answer for an output that suffices, to a small model of the pool in its rooms, and to the answers of document 01: the edges of
+//! crates/edges, and every column's bits.
 use crate::language::{bytes_of, put_bytes};
 use crate::random::Random;
 
@@ -45,8 +46,8 @@ impl LentCase {
     }
 }
 
-/// The answers of document 01 outside the crate's reach, a command to a line; those that set the stage have no answer.
-const BY_DOCUMENT: &str = include_str!("by_document.txt");
+/// The edges of document 01, which a proved program answers too: the commands, and the answers.
+const EDGES: [&str; 2] = [include_str!("../../crates/edges/stdin"), include_str!("../../crates/edges/stdout")];
 
 fn fill(bytes: usize) -> String {
     "ee".repeat(bytes)
@@ -343,54 +344,37 @@ fn in_rooms(recipe: Recipe) -> LentCase {
 }
 
 fn by_document() -> LentCase {
-    let lines = BY_DOCUMENT.lines().filter(|line| !line.is_empty() && !line.starts_with('#'));
-    let lines = lines.map(|line| match line.split_once(" -> ") {
-        Some((command, answer)) => (command.to_string(), Expect::Is(answer.to_string())),
-        None => (line.to_string(), Expect::Any),
-    });
-    LentCase { kind: "by document", lines: lines.collect(), recipe: None }
+    let commands = EDGES[0].lines().filter(|line| !line.is_empty() && !line.starts_with('#'));
+    let mut answers = EDGES[1].lines();
+    let mut lines: Vec<(String, Expect)> =
+        commands.map(|line| (line.to_string(), Expect::Is(answers.next().unwrap_or("(no answer is recorded)").into()))).collect();
+    lines.extend(answers.map(|answer| ("(no command is recorded)".into(), Expect::Is(answer.into()))));
+    LentCase { kind: "by document", lines, recipe: None }
 }
 
-/// A short pool of 65,537 entries, the last of them free, in rooms that are full: a take answers the free number above 65,535, and an
-/// equal one; a new entry is 11, before 4 and 6.
-fn above_short() -> LentCase {
-    const USED: usize = 65_536;
-    let pool = format!("e4040000{}00000000", "01000100".repeat(USED));
-    let answers = [
-        ("lend 0 0 0".to_string(), "ok"),
-        (format!("lend {} {} {}", USED + 1, USED + 1, USED + 1), "ok"),
-        (format!("load {pool} {}", "41".repeat(USED)), "ok 1252 0 65537"),
-        ("take 42".into(), "ok 65537"),
-        ("take 42".into(), "ok 65537"),
-        ("count 65537".into(), "ok 2"),
-        ("take 43".into(), "panic 11"),
-        ("write 0 3328 1 s65537".into(), "error 18 0 0"),
-        ("write 1 3328 1 s65537".into(), "ok 010001"),
-        ("lend -".into(), "ok"),
-        ("new 1252".into(), "ok"),
-    ];
-    let lines = answers.map(|(line, answer)| (line, Expect::Is(answer.into())));
-    LentCase { kind: "numbers above 65,535", lines: lines.to_vec(), recipe: None }
+/// The column of these bits by document 01's rule, in plain numbers: its type, its marks and its written bits.
+fn column_of(bits: u32) -> String {
+    let (size, marks) = (bits & 0xff, (bits >> 12 & 1) + (bits >> 9 & 1) * 2 + (bits >> 13 & 1) * 4);
+    let (coltype, written) = match size {
+        _ if bits == 0x900 || bits == 0x1900 => ("b".into(), 0x900),
+        _ if bits & 0x800 != 0 => (format!("s{size}"), 0xd00 + size),
+        4 if bits & 0x400 != 0 => ("b".into(), 0x900),
+        4 => ("i4".into(), 0x104),
+        1 | 2 => ("i2".into(), 0x502),
+        _ => return "error 13".into(),
+    };
+    format!("ok {coltype} {marks} {}", written + (bits & 0x3200))
 }
 
-/// The longest stored name, a table's of 65,535 units, is decoded; one unit more, or a plain one as long, is 22.
-fn longest_name() -> LentCase {
-    let dashes = |count: usize| "002d".repeat(count);
-    let answers = [
-        (format!("dec 4840{}", dashes(65_535)), format!("ok 1 {}", dashes(65_535))),
-        (format!("dec 4840{}", dashes(65_536)), "error 22".into()),
-        (format!("dec {}", dashes(65_536)), "error 22".into()),
-        (format!("enc 1 {}", dashes(65_535)), format!("ok 4840{}", dashes(65_535))),
-        (format!("enc 1 {}", dashes(65_536)), "error 22".into()),
-    ];
-    let lines = answers.map(|(line, answer)| (line, Expect::Is(answer)));
-    LentCase { kind: "the longest name", lines: lines.to_vec(), recipe: None }
+/// Every pattern of the low 16 bits.
+fn column_bits() -> LentCase {
+    let lines = (0..=0xffff).map(|bits| (format!("col @{bits} 0"), Expect::Is(column_of(bits))));
+    LentCase { kind: "columns by their bits", lines: lines.collect(), recipe: None }
 }
 
 pub fn cases(random: &mut Random, times: usize, emit: &mut dyn FnMut(LentCase)) {
     emit(by_document());
-    emit(above_short());
-    emit(longest_name());
+    emit(column_bits());
     // Three texts, the middle one free and still holding a byte; and a long pool without any.
     const POOLS: [&str; 2] = ["load e4040000030002000100000002000100 414243444546", "load e4040080 -"];
     for _ in 0..times {

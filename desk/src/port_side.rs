@@ -1,12 +1,14 @@
 //! The port's calls, asked in the words of language.rs. Rooms and outputs are lent as the commands say: by default as much as
 //! suffices.
-use crate::language::{self, Answer, Cell, Command, Held, Made, Place, Spec, Type, Value};
+use crate::language::{self, Answer, Cell, Command, Held, Made, Place, Room, Spec, Type, Value};
 use strandroost::calls::{self, ColumnParts, KindAndNumber, Layout, Rooms, RoomsMut, State};
 use std::collections::HashMap;
 use strandroost::Refusal;
 
 /// What lent memory holds before a call writes it.
 const FILL: u8 = 0xee;
+/// The bytes of a cell in bulk: a kind, and a number apart from it.
+const CELL: usize = 5;
 const MAX_BYTES: usize = 268_435_455;
 
 type Asked<T> = Result<T, Refusal>;
@@ -20,11 +22,27 @@ pub struct PortSide {
     lent: bool,
     /// The places of an output, where `out` set them.
     places: Option<usize>,
+    /// The last output as it was left, and how many bytes a place has: of cells the kinds, then the numbers.
     out: Vec<u8>,
+    width: usize,
     /// The texts that `rows` has shown of this pool, by reference: every call on a text judges the whole pool.
     shown: HashMap<i32, Vec<u8>>,
     /// Whether `rows` has asked the pool for a value that is no text.
     judged: bool,
+}
+
+/// The last so many places, or all where there are fewer.
+fn last<T>(room: &[T], places: usize) -> &[T] {
+    &room[room.len().saturating_sub(places)..]
+}
+
+/// The first places of a room hold these; whether it has as many.
+fn put_first<T: Copy>(held: &[T], room: &mut [T]) -> bool {
+    match room.get_mut(..held.len()) {
+        Some(first) => first.copy_from_slice(held),
+        None => return false,
+    }
+    true
 }
 
 /// Whether a command may change the pool, its rooms or the outputs, and so what a value is shown as.
@@ -32,7 +50,7 @@ fn changes(command: &Command) -> bool {
     use Command::*;
     matches!(
         command,
-        New(_) | Load(..) | Page(_) | Take(_) | Drop(_) | Create(_) | Remove(_) | Lend(_) | Out(_) | Pool(..)
+        New(_) | Load(..) | Page(_) | Take(_) | Drop(_) | Create(_) | Remove(_) | Lend(_) | Out(_) | Hold(_) | Pool(..)
     )
 }
 
@@ -163,6 +181,7 @@ impl PortSide {
             lent: false,
             places: None,
             out: Vec::new(),
+            width: 1,
             shown: HashMap::new(),
             judged: false,
         })
@@ -230,7 +249,9 @@ impl PortSide {
                 self.places = places;
                 Answer::Done
             }
-            Command::Held => self.held(),
+            Command::Hold(room) => self.hold(room),
+            Command::Held(places) => self.held(places.unwrap_or(usize::MAX)),
+            Command::Ref(number) => Answer::Number(calls::string_ref(number)? as u64),
             Command::Pool(num_strings, long_string_refs, codepage) => {
                 self.state = State { num_strings, codepage, long_string_refs };
                 Answer::Done
@@ -271,13 +292,29 @@ impl PortSide {
         }
     }
 
-    fn held(&self) -> Answer {
+    fn hold(&mut self, room: Room) -> Answer {
+        let fits = match room {
+            Room::Lengths(numbers) => put_first(&numbers, &mut self.lengths),
+            Room::Counts(numbers) => put_first(&numbers, &mut self.counts),
+            Room::Text(bytes) => put_first(&bytes, &mut self.text),
+        };
+        if fits { Answer::Done } else { Answer::Bad }
+    }
+
+    fn held(&self, places: usize) -> Answer {
         Answer::Held(Held {
-            lengths: self.lengths.clone(),
-            counts: self.counts.clone(),
-            text: self.text.clone(),
-            out: self.out.clone(),
+            lengths: last(&self.lengths, places).to_vec(),
+            counts: last(&self.counts, places).to_vec(),
+            text: last(&self.text, places).to_vec(),
+            out: self.left(places.min(self.out.len())),
         })
+    }
+
+    /// The last places of the last output.
+    fn left(&self, places: usize) -> Vec<u8> {
+        let (kinds, rest) = self.out.split_at(if self.width == CELL { self.out.len() / CELL } else { 0 });
+        let width = if self.width == CELL { CELL - 1 } else { self.width };
+        [last(kinds, places), last(rest, width * places)].concat()
     }
 
     // ---------------------------------------------------------- outputs
@@ -286,7 +323,7 @@ impl PortSide {
     fn with_bytes<T>(&mut self, enough: usize, call: impl FnOnce(&mut [u8]) -> Asked<T>) -> Asked<T> {
         let mut out = vec![FILL; self.places.unwrap_or(enough)];
         let answer = call(&mut out);
-        self.out = out;
+        (self.out, self.width) = (out, 1);
         answer
     }
 
@@ -294,7 +331,7 @@ impl PortSide {
     fn with_units<T>(&mut self, enough: usize, call: impl FnOnce(&mut [u16]) -> Asked<T>) -> Asked<T> {
         let mut out = vec![u16::from_le_bytes([FILL; 2]); self.places.unwrap_or(enough)];
         let answer = call(&mut out);
-        self.out = out.iter().flat_map(|unit| unit.to_le_bytes()).collect();
+        (self.out, self.width) = (out.iter().flat_map(|unit| unit.to_le_bytes()).collect(), 2);
         answer
     }
 
@@ -339,7 +376,7 @@ impl PortSide {
     fn show(&mut self, number: i32) -> Asked<Vec<u8>> {
         let mut out = vec![FILL; self.places.unwrap_or(self.text_length(number))];
         let answer = calls::get(self.state, self.rooms(), number, &mut out);
-        self.out = out;
+        (self.out, self.width) = (out, 1);
         Ok(self.out[..answer?].to_vec())
     }
 
@@ -351,14 +388,14 @@ impl PortSide {
     fn pool_stream(&mut self) -> Asked<Vec<u8>> {
         let mut out = vec![FILL; self.places.unwrap_or(4 + 8 * self.state.num_strings.min(self.lengths.len()))];
         let answer = calls::write_pool(self.state, self.rooms(), &mut out);
-        self.out = out;
+        (self.out, self.width) = (out, 1);
         Ok(self.out[..answer?].to_vec())
     }
 
     fn data_stream(&mut self) -> Asked<Vec<u8>> {
         let mut out = vec![FILL; self.places.unwrap_or(self.text.len())];
         let answer = calls::write_data(self.state, self.rooms(), &mut out);
-        self.out = out;
+        (self.out, self.width) = (out, 1);
         Ok(self.out[..answer?].to_vec())
     }
 
@@ -370,7 +407,7 @@ impl PortSide {
             2 => {
                 let mut out = vec![FILL; self.places.unwrap_or(self.text_length(cell.number))];
                 let answer = calls::to_text(cell, self.state, self.rooms(), &mut out);
-                self.out = out;
+                (self.out, self.width) = (out, 1);
                 Value::Text(self.out[..answer?].to_vec())
             }
             3 => Value::Binary,
@@ -386,6 +423,7 @@ impl PortSide {
         let (mut kinds, mut numbers) = (vec![FILL; places], vec![i32::from_le_bytes([FILL; 4]); places]);
         let answer = calls::read_rows(layout, stream, &mut kinds, &mut numbers);
         self.out = kinds.iter().copied().chain(numbers.iter().flat_map(|number| number.to_le_bytes())).collect();
+        self.width = CELL;
         let cells = kinds.iter().zip(&numbers).take(answer?).map(|(kind, number)| cell_out(*kind, *number));
         Ok(Answer::Cells(rows, cells.collect()))
     }
@@ -396,7 +434,7 @@ impl PortSide {
             return self.value(cell);
         }
         if let Some(text) = self.shown.get(&cell.number).filter(|_| cell.kind == 2) {
-            self.out.clone_from(text);
+            (self.out, self.width) = (text.clone(), 1);
             return Ok(Value::Text(text.clone()));
         }
         match cell_out(cell.kind, cell.number) {

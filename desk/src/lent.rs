@@ -352,6 +352,18 @@ fn by_document() -> LentCase {
     LentCase { kind: "by document", lines, recipe: None }
 }
 
+/// 22 first, before 24 and whatever else is wrong: two entries in rooms for one, and a text room one byte over the size, more than the
+/// program of crates/edges has.
+fn over_size() -> LentCase {
+    const STAGE: [&str; 5] = ["new 1252", "out 0", "lend 0 0 0", "lend 1 1 268435456", "pool 2 0 1252"];
+    const CALLS: [&str; 12] = [
+        "show 0", "count 0", "take 41", "drop 0", "page 4294967295", "create n", "create t41", "remove n", "value n", "load 00 -", "wpool", "wdata",
+    ];
+    const END: [&str; 4] = ["new 1252", "out -", "lend 0 0 0", "lend -"];
+    let all = |lines: &[&str], answer: &str| lines.iter().map(|line| (line.to_string(), Expect::Is(answer.into()))).collect::<Vec<_>>();
+    LentCase { kind: "over the size", lines: [all(&STAGE, "ok"), all(&CALLS, "error 22"), all(&END, "ok")].concat(), recipe: None }
+}
+
 /// The column of these bits by document 01's rule, in plain numbers: its type, its marks and its written bits.
 fn column_of(bits: u32) -> String {
     let (size, marks) = (bits & 0xff, (bits >> 12 & 1) + (bits >> 9 & 1) * 2 + (bits >> 13 & 1) * 4);
@@ -374,6 +386,7 @@ fn column_bits() -> LentCase {
 
 pub fn cases(random: &mut Random, times: usize, emit: &mut dyn FnMut(LentCase)) {
     emit(by_document());
+    emit(over_size());
     emit(column_bits());
     // Three texts, the middle one free and still holding a byte; and a long pool without any.
     const POOLS: [&str; 2] = ["load e4040000030002000100000002000100 414243444546", "load e4040080 -"];

@@ -1,9 +1,11 @@
 pub mod Below
+pub mod Bools
 pub mod Lists
 pub mod Sums
 pub mod Parts
 pub mod Run
 pub mod Writing
 pub mod Outcomes
+pub mod Answers
 pub mod Limits
 pub mod Points

@@ -1,12 +1,16 @@
--- What stands at a place of a list after an element is replaced or added.
+-- What stands at a place of a list after an element is replaced or added, and numbers counted up.
 use mathlib.Core.Path.{_≡_, refl, sym, ap, _∙_}
-use Prim.Native.Nat.{ℕ, zero, suc, _<_}
+use Prim.Native.Nat.{ℕ, zero, suc, _+_, _-_, _<_, _≤_}
+use native.Mathlib.Nat.{not-suc-le-zero, le-of-suc-le-suc, add-zero}
+use native.Mathlib.Numerals.{add-one}
+use native.Mathlib.Omega.{arith}
 use mathlib.Core.Bool.{Bool, true, false}
 use mathlib.Core.List.{List, [], _∷_, _++_, map}
 use lib.ListN.{length, getD, set}
 use lib.Seq.{getD-set-same, getD-set-other}
 use borrow.Author.Tests.{eqb-true, eqb-false}
 use lib.Dec.{eqb, eqb·zero-suc, eqb·suc-zero, eqb·suc-suc}
+use Rattle.common.specs.Lists.{from}
 use Rattle.common.specs.Choice.{if_then_else_, _=?_}
 
 module _ {A : Type 0} (d : A) where
@@ -28,3 +32,34 @@ pub map-set : {A B : Type 0} (f : A → B) (l : List A) (k : ℕ) (x : A) → ma
 map-set f [] k x = refl
 map-set f (y ∷ l) zero x = refl
 map-set f (y ∷ l) (suc k) x = ap (λ (r : List _). f y ∷ r) (map-set f l k x)
+
+pub map-snoc : {A B : Type 0} (f : A → B) (l : List A) (a : A) → map f (l ++ (a ∷ [])) ≡ map f l ++ (f a ∷ [])
+map-snoc f [] a = refl
+map-snoc f (b ∷ l) a = ap (λ (r : List _). f b ∷ r) (map-snoc f l a)
+
+pub no-length : {A : Type 0} (l : List A) → length l ≡ 0 → l ≡ []
+no-length [] e = refl
+no-length (a ∷ l) e = absurd (omega arith)
+
+-- ---- numbers counted up
+
+pub from-next : (k n : ℕ) → k < n → from k (n - k) ≡ k ∷ from (k + 1) (n - (k + 1))
+from-next k n h =
+    let e : n - k ≡ suc (n - (k + 1)) = omega arith in
+    rw (e, add-one)
+
+pub from-done : (k n : ℕ) → n ≤ k → from k (n - k) ≡ []
+from-done k n h =
+    let e : n - k ≡ 0 = omega arith in
+    rw e
+
+pub length-from : (k n : ℕ) → length (from k n) ≡ n
+length-from k zero = refl
+length-from k (suc n) = ap suc (length-from (suc k) n)
+
+pub map-from : {A : Type 0} (f : ℕ → A) (k n i : ℕ) (d : A) → i < n → getD (map f (from k n)) i d ≡ f (k + i)
+map-from f k zero i d h = absurd (not-suc-le-zero h)
+map-from f k (suc n) zero d h = ap f (sym (add-zero k))
+map-from f k (suc n) (suc i) d h =
+    let j : suc k + i ≡ k + suc i = omega arith in
+    map-from f (suc k) n i d (le-of-suc-le-suc h) ∙ ap f j

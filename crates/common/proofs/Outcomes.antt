@@ -1,14 +1,14 @@
 -- An answer taken apart at its tests, in document 01's order.
-use mathlib.Core.Path.{_≡_, refl, sym, ap, ap₂}
+use mathlib.Core.Path.{_≡_, refl, ap, ap₂}
 use Prim.Native.Nat.{ℕ, _≤_}
 use mathlib.Core.List.{List}
 use lib.ListN.{length}
 use borrow.Author.Tests.{ltb-false}
-use native.Mathlib.Omega.{arith}
 use mathlib.Core.Bool.{Bool, true, false, not}
 use Rattle.common.specs.Choice.{if_then_else_, _<?_}
 use Rattle.common.specs.Lists.{_over_}
 use Rattle.common.specs.Answers.{Place, nowhere, Answer, gives, refused, onGiven, outcome, writtenTo}
+use Rattle.common.proofs.Bools.{clash}
 
 -- the answer is a refusal, or it gives y and P holds
 pub data Case {A : Type 0} (x : Answer A) (y : A) (P : Type 0) : Type 0 where
@@ -23,19 +23,15 @@ test false n at f = f refl
 -- what is left of a test with `not`
 pub not-true : (b : Bool) → not b ≡ false → b ≡ true
 not-true true e = refl
-not-true false e = sym e
-
-pub true-not : (b : Bool) → not b ≡ true → b ≡ false
-true-not true e = sym e
-true-not false e = refl
+not-true false e = cc
 
 -- a refusal gives nothing
 pub refused-gives : {A : Type 0} {y : A} {n : ℕ} {at : Place} → refused n at ≡ gives y → ⊥
-refused-gives e = let z : _≡_ {A = ℕ} 0 1 = cc in omega arith
+refused-gives e = clash (cc)
 
 -- an answer that gives y was refused by no test on the way
 pub past : {A : Type 0} {x : Answer A} {y : A} (b : Bool) (n : ℕ) (at : Place) → (if b then refused n at else x) ≡ gives y → (b ≡ false) × (x ≡ gives y)
-past true n at e = absurd (refused-gives e)
+past true n at e = clash (cc)
 past false n at e = (refl, e)
 
 -- an outcome that gives y comes of an answer that does
@@ -53,5 +49,5 @@ wrote out result more {y} e = go (length out <? length result) refl e
   where
     go : (b : Bool) → (length out <? length result) ≡ b → onGiven (if b then refused 7 nowhere else gives (length result, result over out)) more ≡ gives y
         → (length result ≤ length out) × (more (length result, result over out) ≡ gives y)
-    go true f e = absurd (refused-gives e)
+    go true f e = clash (cc)
     go false f e = (ltb-false _ _ f, e)

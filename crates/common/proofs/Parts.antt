@@ -29,6 +29,9 @@ module _ {A : Type 0} where
   pub paste-over : (at n : ℕ) (x room : List A) → n ≤ length x → paste room at x n ≡ overAt at (take n x) room
   paste-over at n x room h = rw (length-take-le n x h, append-assoc, drop-drop)
 
+  pub paste-front : (x room : List A) (n : ℕ) → length x ≡ n → paste room 0 x n ≡ x over room
+  paste-front x room n e = paste-over 0 n x room (omega arith) ∙ rw (take-all n x (omega arith))
+
   -- a result after another
   pub over-append : (x y room : List A) (n : ℕ) → length x ≡ n → take n (x over room) ++ (y over drop n (x over room)) ≡ (x ++ y) over room
   over-append x y room n e = rw (take-at x (drop (length x) room) n e, drop-at x (drop (length x) room) n e, drop-drop, length-append, append-assoc)
@@ -51,6 +54,10 @@ module _ {A : Type 0} where
   set-over-two at a b room h =
       let first : set room at a ≡ overAt at (a ∷ []) room = set-over at a room (omega arith) in
       rw (set-over (at + 1) b (set room at a) (simp length-set (omega arith)), first) (over-next (a ∷ []) (b ∷ []) room at 1 (omega arith) refl)
+
+  -- a store, and then what comes after it
+  pub over-set : (a : A) (x room : List A) (at : ℕ) → at < length room → overAt (at + 1) x (set room at a) ≡ overAt at (a ∷ x) room
+  over-set a x room at h = rw (set-over at a room h) (over-next (a ∷ []) x room at 1 (omega arith) refl)
 
 -- ---- the part that runs to the end
 
@@ -81,6 +88,12 @@ exact-over x out at k h e =
     let n : length (take k (drop at out)) ≡ k = length-take-le k (drop at out) (rw length-drop (omega arith)) in
     let none : drop k (take k (drop at out)) ≡ [] = drop-of-length-le (take k (drop at out)) {i = k} (omega arith) in
     rw (e, none, append-nil)
+
+-- the same of a callee that leaves its result there
+pub filled-part : {A : Type 0} (x out last : List A) (at k : ℕ) → last ≡ x → length x ≡ k → at + k ≤ length out → putMid at k out last ≡ overAt at x out
+filled-part x out last at k e l h =
+    let m : length (take k (drop at out)) ≡ k = length-take-le k (drop at out) (simp length-drop (omega arith)) in
+    ap (putMid at k out) (e ∙ sym (over-all x (take k (drop at out)) (omega arith))) ∙ exact-over x out at k h l
 
 -- ---- the first element is stored, and the rest of the result goes to the part after it
 

@@ -13,6 +13,7 @@ use lib.Seq.{drop-cons}
 use borrow.Author.Tests.{ne-eqb}
 use Rattle.common.specs.Lists.{every}
 use Rattle.common.proofs.Below.{allBelow, each}
+use Rattle.common.proofs.Bools.{clash, both-true, holds}
 use Rattle.streamname.specs.Letters.{letters, toB64}
 use Rattle.streamname.specs.Names.{allowed}
 use Rattle.streamname.specs.Promises.{Coded}
@@ -22,19 +23,11 @@ use Rattle.streamname.proofs.LetterLaws.{inside, letter-small}
 coded-not : (u : ℕ) → Coded u → allowed u ≡ false
 coded-not u h = simp (ne-eqb u 0x21 (omega arith), ne-eqb u 0x2F (omega arith), ne-eqb u 0x3A (omega arith), ne-eqb u 0x5C (omega arith), inside 0x3800 0x483F u (h .0) (h .1))
 
-pub and-parts : (a b : Bool) → (a && b) ≡ true → (a ≡ true) × (b ≡ true)
-and-parts true b e = (refl, e)
-and-parts false b e = absurd (let z : _≡_ {A = ℕ} 0 1 = cc in omega arith)
-
 -- where every unit is allowed, none is coded
 pub every-clear : (name : List ℕ) → every allowed name ≡ true → (k : ℕ) → k < length name → ¬ Coded (getD name k 0)
 every-clear [] e k h = absurd (not-suc-le-zero h)
-every-clear (u ∷ rest) e zero h = λ c. let f = and-parts (allowed u) (every allowed rest) e .0 in let g = coded-not u c in let z : _≡_ {A = ℕ} 0 1 = cc in omega arith
-every-clear (u ∷ rest) e (suc k) h = every-clear rest (and-parts (allowed u) (every allowed rest) e .1) k (le-of-suc-le-suc h)
-
-holds : (b : Bool) → T b → b ≡ true
-holds true t = refl
-holds false t = absurd t
+every-clear (u ∷ rest) e zero h = λ c. let f = both-true (allowed u) (every allowed rest) e .0 in let g = coded-not u c in clash (cc)
+every-clear (u ∷ rest) e (suc k) h = every-clear rest (both-true (allowed u) (every allowed rest) e .1) k (le-of-suc-le-suc h)
 
 -- a letter is allowed: one test over all the units below 0x7B, past which there is none
 allowedIf : Option ℕ → ℕ → Bool
@@ -48,14 +41,6 @@ all-letters = tt
 pub letter-allowed : (u a : ℕ) → toB64 u ≡ some a → allowed u ≡ true
 unfolding allowedIf
 letter-allowed u a e = holds (allowed u) (rw e at (each (λ v. allowedIf (toB64 v) v) 0x7B all-letters u (letter-small u a e)))
-
-pub and-assoc : (a b c : Bool) → (a && b) && c ≡ a && (b && c)
-and-assoc true b c = refl
-and-assoc false b c = refl
-
-pub and-true : (a : Bool) → a ≡ (a && true)
-and-true true = refl
-and-true false = refl
 
 pub every-next : (name : List ℕ) (i : ℕ) → i < length name → every allowed (drop i name) ≡ (allowed (getD name i 0) && every allowed (drop (i + 1) name))
 every-next name i h = rw (add-one, drop-cons name i 0 h)

@@ -2,7 +2,7 @@
 use Prim.Native.Nat.{ℕ, suc, _+_, _*_, _≤_, _<_}
 use mathlib.Core.Path.{_≡_, refl, sym, ap, _∙_}
 use mathlib.Core.List.{List, [], _∷_}
-use mathlib.Core.Bool.{Bool, true, false, _&&_, _||_}
+use mathlib.Core.Bool.{Bool, true, false, _&&_, _||_, and-assoc, and-true}
 use mathlib.Core.Option.{Option, none, some}
 use native.Mathlib.Omega.{arith}
 use native.Mathlib.Numerals.{add-one}
@@ -13,7 +13,7 @@ use Rattle.streamname.specs.Names.{encoded, greedy, pair, encodedName, a
 use Rattle.streamname.specs.Calls.{encodeOutcome}
 use Rattle.streamname.specs.inner.Packing.{Front, Tallied}
 use Rattle.streamname.specs.declared.encoding.Tally.{Tally}
-use Rattle.streamname.proofs.AllowedLaws.{letter-allowed, every-next, and-assoc, and-true}
+use Rattle.streamname.proofs.AllowedLaws.{letter-allowed, every-next}
 use Rattle.streamname.specs.declared.encoding.Packed.{Packed}
 use Rattle.common.specs.Choice.{_<?_}
 use Rattle.common.specs.Lists.{_over_, every}
@@ -106,7 +106,7 @@ module _ (name : List ℕ) (m : Tally) (p : Packed) (so-far : Tallied name m) (f
         fewer = omega (arith, so-far .fewer, f .moves);
         within = f .within;
         counted = counted-on;
-        judged = ap (λ b. b && every allowed (drop (m .at + p .used) name)) (and-true (m .allowed)) ∙ judged-on true (rw (lt-ltb 1 (p .used) h));
+        judged = ap (λ b. b && every allowed (drop (m .at + p .used) name)) (sym (and-true (m .allowed))) ∙ judged-on true (rw (lt-ltb 1 (p .used) h));
       }
 
   pub tally-one : p .used ≤ 1 → Tallied name (record { units = m .units + 1; allowed = m .allowed && allowed (getD name (m .at) 0); at = m .at + p .used })
@@ -125,7 +125,7 @@ encoded-end name i h = rw (drop-of-length-le name h)
 
 -- and all is tallied
 pub tallied-all : (name : List ℕ) (m : Tally) → Tallied name m → length name ≤ m .at → (m .units ≡ length (encoded name)) × (m .allowed ≡ every allowed name)
-tallied-all name m t h = (omega (arith, t .counted, ap length (encoded-end name (m .at) h)), and-true (m .allowed) ∙ (rw (drop-of-length-le name h) at (t .judged)))
+tallied-all name m t h = (omega (arith, t .counted, ap length (encoded-end name (m .at) h)), sym (and-true (m .allowed)) ∙ (rw (drop-of-length-le name h) at (t .judged)))
 
 -- a packed name is no longer than the name
 greedy-short : (p : Option ℕ) (x y : List ℕ) (n : ℕ) → length x < n → length y ≤ n → length (greedy p x y) ≤ n

@@ -7,14 +7,14 @@ use mathlib.Core.Bool.{Bool, true, false, _&&_}
 use mathlib.Core.List.{List, [], _∷_, map}
 use mathlib.Core.Option.{Option, none, some}
 use native.Mathlib.Omega.{arith}
-use native.Mathlib.Nat.{add-zero, zero-add, add-suc, suc-add, le-of-suc-le-suc, not-suc-le-zero}
+use native.Mathlib.Nat.{zero-add}
 use native.Mathlib.Decide.{decLt}
 use lib.Dec.{T, leb, ltb, eqb, ltb→lt, eqb→eq}
 use lib.ListN.{length, getD, List·getD-eq-default}
 use borrow.Author.Tests.{le-leb, lt-leb, ne-eqb, leb-true}
 use Rattle.common.specs.Choice.{if_then_else_, _<?_, _=?_}
-use Rattle.common.specs.Lists.{from}
 use Rattle.common.proofs.Below.{both, allBelow, each}
+use Rattle.common.proofs.Lists.{map-from}
 use Rattle.streamname.specs.Letters.{letters, placeIn, toB64, fromB64}
 use Rattle.streamname.specs.Names.{between}
 use Rattle.streamname.specs.inner.Packing.{orSixtyFour, letterNumbers}
@@ -30,11 +30,6 @@ outside low high u h = go (leb low u) refl
     go false e = refl
 
 -- ---- the number of a letter, as the table has it
-
-map-from : (f : ℕ → ℕ) (k n i d : ℕ) → i < n → getD (map f (from k n)) i d ≡ f (k + i)
-map-from f k zero i d h = absurd (not-suc-le-zero h)
-map-from f k (suc n) zero d h = ap f (sym (add-zero k))
-map-from f k (suc n) (suc i) d h = map-from f (suc k) n i d (le-of-suc-le-suc h) ∙ ap f (suc-add k i ∙ sym (add-suc k i))
 
 pub looked-up : (u : ℕ) → u < 128 → getD letterNumbers u 0 ≡ orSixtyFour (toB64 u)
 unfolding letterNumbers

@@ -8,15 +8,14 @@ use native.Mathlib.Omega.{arith}
 use lib.ListN.{length, take, getD}
 use lib.Seq.{take-at}
 use Rattle.common.specs.Sizes.{maxName, maxStored}
-use Rattle.common.specs.Lists.{_over_}
+use Rattle.common.specs.Lists.{_over_, every}
 use Rattle.common.specs.Choice.{_<?_, _≤?_, _=?_}
 use Rattle.common.specs.Answers.{gives, nowhere}
+use Rattle.common.proofs.Bools.{both-true}
 use Rattle.common.proofs.Outcomes.{past, outcome-gives, wrote as fitted}
-use Rattle.common.specs.Lists.{every}
-use borrow.Author.Tests.{ltb-false, eqb-false}
+use borrow.Author.Tests.{ltb-false, eqb-false, not-true}
 use Rattle.streamname.specs.Names.{encodedName, decodedName, isTable, allowed, valid}
-use Rattle.streamname.proofs.AllowedLaws.{every-clear, and-parts}
-use Rattle.common.proofs.Outcomes.{not-true, true-not}
+use Rattle.streamname.proofs.AllowedLaws.{every-clear}
 use Rattle.streamname.specs.Calls.{encodeOutcome, decodeAnswer, decodeOutcome}
 use Rattle.streamname.specs.Promises.{Returns, StoredSize, written, CallsReturn, ValidReturns}
 use Rattle.streamname.proofs.EncodeLaws.{stored-short, encode-done}
@@ -70,15 +69,15 @@ calls-return name table out back h room space = rw (wrote name table out h room)
 -- a valid name has no coded unit, and keeps its flag
 plain : (name : List ℕ) (t : Bool) → t ≡ false → (t || not (isTable name)) ≡ true → getD name 0 0 ≢ 0x4840
 plain name true p f = absurd (true≢false p)
-plain name false p f = eqb-false _ _ (true-not _ f)
+plain name false p f = eqb-false _ _ (not-true _ f)
 
 keeps : (name : List ℕ) (table : Bool) → valid name table ≡ true → Returns name table
 keeps name table e =
     let some = not (length name =? 0) in
     let flag = table || not (isTable name) in
     let short = length (encodedName name table) ≤? 31 in
-    let f = and-parts (some && flag && short) (every allowed name) e in
-    let g = and-parts some flag (and-parts (some && flag) short (f .0) .0) .1 in
+    let f = both-true (some && flag && short) (every allowed name) e in
+    let g = both-true some flag (both-true (some && flag) short (f .0) .0) .1 in
     (every-clear name (f .1), λ p. plain name table p g)
 
 pub valid-returns : ValidReturns

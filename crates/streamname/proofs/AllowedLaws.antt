@@ -17,11 +17,14 @@ use Rattle.common.proofs.Bools.{clash, both-true, holds}
 use Rattle.streamname.specs.Letters.{letters, toB64}
 use Rattle.streamname.specs.Names.{allowed}
 use Rattle.streamname.specs.Promises.{Coded}
-use Rattle.streamname.proofs.LetterLaws.{inside, letter-small}
+use Rattle.streamname.proofs.LetterLaws.{inside, outside, letter-small}
 
 -- a coded unit is not allowed
-coded-not : (u : ℕ) → Coded u → allowed u ≡ false
+pub coded-not : (u : ℕ) → Coded u → allowed u ≡ false
 coded-not u h = simp (ne-eqb u 0x21 (omega arith), ne-eqb u 0x2F (omega arith), ne-eqb u 0x3A (omega arith), ne-eqb u 0x5C (omega arith), inside 0x3800 0x483F u (h .0) (h .1))
+
+pub other-allowed : (u : ℕ) → (u ≡ 0x21 → ⊥) → (u ≡ 0x2F → ⊥) → (u ≡ 0x3A → ⊥) → (u ≡ 0x5C → ⊥) → (0x3800 ≤ u → 0x483F < u) → allowed u ≡ true
+other-allowed u a b c d h = simp (ne-eqb u 0x21 a, ne-eqb u 0x2F b, ne-eqb u 0x3A c, ne-eqb u 0x5C d, outside 0x3800 0x483F u h)
 
 -- where every unit is allowed, none is coded
 pub every-clear : (name : List ℕ) → every allowed name ≡ true → (k : ℕ) → k < length name → ¬ Coded (getD name k 0)

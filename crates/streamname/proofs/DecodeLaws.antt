@@ -12,8 +12,9 @@ use Rattle.streamname.specs.Letters.{fromB64}
 use Rattle.common.specs.Lists.{_over_}
 use Rattle.common.specs.Choice.{if_then_else_}
 use Rattle.common.specs.Sizes.{maxName, maxStored}
+use Rattle.common.proofs.Bools.{clash}
 use Rattle.common.specs.Answers.{gives, refused, nowhere}
-use Rattle.streamname.specs.Names.{between, undone, decoded, isTable, stripped, decodedName}
+use Rattle.streamname.specs.Names.{between, undone, decoded, isTable, decodedName}
 use Rattle.streamname.specs.Calls.{decodeOutcome}
 use Rattle.streamname.specs.inner.Packing.{unitsOf}
 use Rattle.streamname.specs.declared.decoding.Unpacked.{Unpacked}
@@ -63,21 +64,10 @@ pub decoded-end : (stored : List ℕ) (i : ℕ) → length stored ≤ i → deco
 unfolding decoded
 decoded-end stored i h = rw (drop-of-length-le stored h)
 
--- the prefix is a unit of the stored name, and without it the name is stripped
-pub prefix-within : (stored : List ℕ) → (if isTable stored then 1 else 0) ≤ length stored
-prefix-within [] = omega arith
-prefix-within (v ∷ rest) = go (isTable (v ∷ rest))
-  where
-    go : (t : Bool) → (if t then 1 else 0) ≤ length (v ∷ rest)
-    go true = omega arith
-    go false = omega arith
-
-pub prefix-stripped : (stored : List ℕ) → drop (if isTable stored then 1 else 0) stored ≡ stripped stored
-prefix-stripped stored = go (isTable stored)
-  where
-    go : (t : Bool) → drop (if t then 1 else 0) stored ≡ (if t then drop 1 stored else stored)
-    go true = refl
-    go false = refl
+-- the prefix is a unit of the stored name
+pub prefix-within : (stored : List ℕ) → isTable stored ≡ true → 1 ≤ length stored
+prefix-within [] e = clash (cc)
+prefix-within (v ∷ rest) e = omega arith
 
 -- `decode` refused, and past its refusals
 module _ (stored out : List ℕ) where

@@ -141,6 +141,20 @@ encoded-short (u ∷ v ∷ r) =
     let one : length (0 ∷ encoded (v ∷ r)) ≤ length (u ∷ v ∷ r) = omega (arith, encoded-short (v ∷ r)) in
     greedy-short (pair (toB64 u) (toB64 v)) _ _ _ two one
 
+-- nor shorter than half of it
+greedy-half : (p : Option ℕ) (x y : List ℕ) (n : ℕ) → n ≤ length x * 2 + 2 → n ≤ length y * 2 → n ≤ length (greedy p x y) * 2
+greedy-half (some u) x y n h k = omega arith
+greedy-half none x y n h k = k
+
+pub encoded-half : (l : List ℕ) → length l ≤ length (encoded l) * 2
+unfolding encoded
+encoded-half [] = omega arith
+encoded-half (u ∷ []) = omega arith
+encoded-half (u ∷ v ∷ r) =
+    let two : length (u ∷ v ∷ r) ≤ length (encoded r) * 2 + 2 = omega (arith, encoded-half r) in
+    let one : length (u ∷ v ∷ r) ≤ length (0 ∷ encoded (v ∷ r)) * 2 = omega (arith, encoded-half (v ∷ r)) in
+    greedy-half (pair (toB64 u) (toB64 v)) _ _ _ two one
+
 -- and its stored form has at most the prefix more
 pub stored-short : (name : List ℕ) (table : Bool) → length (encodedName name table) ≤ length name + 1
 stored-short name true = omega (arith, encoded-short name)

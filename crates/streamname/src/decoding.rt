@@ -8,7 +8,6 @@ ghost use lib.ListN.{length};
 ghost use Rattle.streamname.specs.Names.{undone, decoded, isTable, stripped};
 ghost use Rattle.streamname.specs.inner.Packing.{unitsOf, Put, Bound};
 ghost use Rattle.common.specs.Sizes.{maxName};
-ghost use Rattle.common.specs.Choice.{if_then_else_};
 
 // What a stored unit stands for.
 pub(crate) enum Unpacked {
@@ -107,17 +106,12 @@ pub(crate) fn is_table_name(stored: &[u16]) -> bool
     }
 }
 
-// How many units the table's prefix takes: one, or none.
-fn prefix_len(stored: &[u16]) -> usize
-    ensures { λ r. ⌜ r ≡ (if isTable (now (stored .entry)) then 1 else 0) ⌝ }
-{
-    if is_table_name(stored) { 1 } else { 0 }
-}
-
 // A stored name without its table's prefix.
 pub(crate) fn strip(stored: &[u16]) -> &[u16]
     ensures { λ r. ⌜ now r ≡ stripped (now (stored .entry)) ⌝ }
 {
-    let skipped = prefix_len(stored);
-    &stored[skipped..]
+    if is_table_name(stored) {
+        return &stored[1..];
+    }
+    stored
 }

@@ -45,25 +45,14 @@ pub(crate) fn pack(name: &[u16], at: usize, numbers: &[u8; 128]) -> Packed
 fn is_allowed(unit: u16) -> bool
     ensures { λ r. ⌜ r ≡ allowed unit ⌝ }
 {
-    if unit == 0x21 {
-        return false;
+    match unit {
+        0x21 => false,
+        0x2F => false,
+        0x3A => false,
+        0x5C => false,
+        0x3800..=0x483F => false,
+        _ => true,
     }
-    if unit == 0x2F {
-        return false;
-    }
-    if unit == 0x3A {
-        return false;
-    }
-    if unit == 0x5C {
-        return false;
-    }
-    if unit < 0x3800 {
-        return true;
-    }
-    if unit < 0x4840 {
-        return false;
-    }
-    true
 }
 
 // The name up to `at`: how many packed units stand for it, and whether all its own are allowed.

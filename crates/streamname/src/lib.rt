@@ -15,8 +15,6 @@ use common::Refusal;
 use common::sizes::MAX_NAME;
 use common::sizes::MAX_STORED;
 ghost use mathlib.Core.Path.{_≡_};
-ghost use mathlib.Core.Bool.{not, _||_};
-ghost use Rattle.streamname.specs.Names.{isTable};
 ghost use Rattle.streamname.specs.Calls.{encodedAs, decodedAs, validAs, encodeOutcome, decodeOutcome, validAnswer};
 
 // The unit in front of a table's name.
@@ -81,16 +79,6 @@ pub fn decode(stored: &[u16], out: &mut [u16]) -> Decoded
     }
 }
 
-// Whether a name keeps its flag: a plain one that begins with the prefix would be taken for a table's.
-fn keeps_flag(name: &[u16], is_table: bool) -> bool
-    ensures { λ r. ⌜ r ≡ («is_table» || not (isTable (now (name .entry)))) ⌝ }
-{
-    if is_table {
-        return true;
-    }
-    !is_table_name(name)
-}
-
 // Whether a name works as a stream's once it is encoded.
 pub fn is_valid(name: &[u16], is_table: bool) -> Validity
     ensures { λ r. ⌜ validAs r ≡ validAnswer (now (name .entry)) «is_table» ⌝ }
@@ -101,7 +89,8 @@ pub fn is_valid(name: &[u16], is_table: bool) -> Validity
     if name.len() == 0 {
         return Validity::Invalid;
     }
-    if !keeps_flag(name, is_table) {
+    // A plain name that begins with the prefix would be taken for a table's.
+    if is_table_name(name) & !is_table {
         return Validity::Invalid;
     }
     let stored = tally_stored(name, is_table);

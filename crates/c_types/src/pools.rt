@@ -9,8 +9,6 @@ use crate::answers::none;
 use crate::answers::told;
 use common::Refusal;
 use stringpool::Counted;
-use stringpool::Dropped;
-use stringpool::Loaded;
 use stringpool::Made;
 use stringpool::Pooled;
 use stringpool::Showable;
@@ -21,11 +19,9 @@ ghost use mathlib.Core.Path.{_≡_};
 ghost use Rattle.common.specs.Answers.{gives};
 ghost use Rattle.common.specs.Refusals.{refusedBy};
 ghost use Rattle.common.specs.Refs.{madeAs};
-ghost use Rattle.stringpool.specs.Load.{loadedAs};
-ghost use Rattle.stringpool.specs.Pages.{pooledAs};
 ghost use Rattle.stringpool.specs.Show.{refcountAs, showableAs};
 ghost use Rattle.stringpool.specs.Take.{takenAs};
-ghost use Rattle.stringpool.specs.Drop.{droppedAs};
+ghost use Rattle.stringpool.specs.Pool.{pooledAs};
 ghost use Rattle.stringpool.specs.Write.{writtenAs};
 ghost use Rattle.c_types.specs.Answers.{refusalIn, countIn};
 ghost use Rattle.c_types.specs.Pools.{stateIn, poolOut, noPool, poolIn, takenIn, referenceIn};
@@ -85,24 +81,6 @@ pub fn from_pooled(answer: Pooled) -> PoolAnswer
     match answer {
         Pooled::Is(pool) => given_pool(pool),
         Pooled::Refused(why) => refused_pool(why),
-    }
-}
-
-pub fn from_loaded(answer: Loaded) -> PoolAnswer
-    ensures { λ r. ⌜ r ≡ poolIn (loadedAs answer) ⌝ }
-{
-    match answer {
-        Loaded::Ready(pool) => given_pool(pool),
-        Loaded::Refused(why) => refused_pool(why),
-    }
-}
-
-pub fn from_dropped(answer: Dropped) -> PoolAnswer
-    ensures { λ r. ⌜ r ≡ poolIn (droppedAs answer) ⌝ }
-{
-    match answer {
-        Dropped::Done(pool) => given_pool(pool),
-        Dropped::Refused(why) => refused_pool(why),
     }
 }
 

@@ -16,7 +16,7 @@ use cell::Value;
 use cell::ValueRef;
 use pool_values::Created;
 use pool_values::Shown;
-use stringpool::Dropped;
+use stringpool::Pooled;
 use stringpool::StringPool;
 use stringpool::StringRef;
 ghost use mathlib.Core.Path.{_≡_};
@@ -24,7 +24,7 @@ ghost use Rattle.common.specs.Answers.{gives, nowhere};
 ghost use Rattle.cell.specs.Kinds.{refKind, refNumber, valueKind, valueNumber};
 ghost use Rattle.pool_values.specs.Pooled.{createdAs, shownAs};
 ghost use lib.IntN.{pos};
-ghost use Rattle.stringpool.specs.Drop.{droppedAs};
+ghost use Rattle.stringpool.specs.Pool.{pooledAs};
 ghost use Rattle.c_types.specs.Pools.{poolIn, poolOut, noPool};
 ghost use Rattle.c_types.specs.Tables.{cellIn};
 ghost use Rattle.c_types.specs.Unknown.{onKind};
@@ -103,17 +103,17 @@ pub fn from_created(answer: Created, kind: u8) -> CreateAnswer
     }
 }
 
-pub fn from_removed(answer: Dropped, kind: u8) -> PoolAnswer
-    ensures { λ r. ⌜ r ≡ poolIn (onKind nowhere kind (droppedAs answer)) ⌝ }
+pub fn from_removed(answer: Pooled, kind: u8) -> PoolAnswer
+    ensures { λ r. ⌜ r ≡ poolIn (onKind nowhere kind (pooledAs answer)) ⌝ }
 {
     match answer {
-        Dropped::Done(pool) => {
+        Pooled::Is(pool) => {
             if is_unknown(kind) {
                 return no_pool(unknown_kind());
             }
             given_pool(pool)
         }
-        Dropped::Refused(why) => no_pool(told(why)),
+        Pooled::Refused(why) => no_pool(told(why)),
     }
 }
 

@@ -1,17 +1,17 @@
 // Cases k and l: a pool, and a take on it.
-use stringpool::Loaded;
+use stringpool::Pooled;
 use stringpool::StringPool;
 use stringpool::Taken;
 ghost use mathlib.Core.Path.{_≡_};
-ghost use Rattle.stringpool.specs.Pool.{rooms};
-ghost use Rattle.stringpool.specs.Load.{loadedAs, loadOutcome};
+ghost use Rattle.stringpool.specs.Pool.{rooms, pooledAs};
+ghost use Rattle.stringpool.specs.Load.{loadOutcome};
 ghost use Rattle.stringpool.specs.Take.{takenAs};
 ghost use Rattle.cases.specs.Shown.{room, takeOn, called};
 ghost use Rattle.cases.specs.Cases as cases;
 
 // What `load` answers, and the rooms afterwards.
 pub struct Pool {
-    pub answer: Loaded,
+    pub answer: Pooled,
     pub lengths: [u32; 4],
     pub counts: [u16; 4],
     pub text: [u8; 6],
@@ -27,7 +27,7 @@ pub struct Take {
 
 // A load into rooms for four entries and six bytes.
 pub fn loaded(pool: &[u8], texts: &[u8]) -> Pool
-    ensures { λ r. ⌜ (loadedAs (r .answer), rooms (r .lengths) (r .counts) (r .text)) ≡ loadOutcome (now (pool .entry)) (now (texts .entry)) room ⌝ }
+    ensures { λ r. ⌜ (pooledAs (r .answer), rooms (r .lengths) (r .counts) (r .text)) ≡ loadOutcome (now (pool .entry)) (now (texts .entry)) room ⌝ }
 {
     let mut lengths = [0u32; 4];
     let mut counts = [0u16; 4];
@@ -44,14 +44,14 @@ pub fn loaded(pool: &[u8], texts: &[u8]) -> Pool
 // A take on what was loaded.
 pub fn taken_on(pool: Pool, new: &[u8]) -> Take
     ensures { λ r. ⌜ (takenAs (r .answer), rooms (r .lengths) (r .counts) (r .text))
-        ≡ takeOn (now (new .entry)) (loadedAs (pool .answer), rooms (pool .lengths) (pool .counts) (pool .text)) ⌝ }
+        ≡ takeOn (now (new .entry)) (pooledAs (pool .answer), rooms (pool .lengths) (pool .counts) (pool .text)) ⌝ }
 {
     let mut lengths = pool.lengths;
     let mut counts = pool.counts;
     let mut text = pool.text;
     let before = pool.answer;
     match before {
-        Loaded::Ready(state) => {
+        Pooled::Is(state) => {
             let answer = state.incref(&mut lengths, &mut counts, &mut text, new);
             Take {
                 answer,
@@ -60,7 +60,7 @@ pub fn taken_on(pool: Pool, new: &[u8]) -> Take
                 text,
             }
         }
-        Loaded::Refused(why) => Take {
+        Pooled::Refused(why) => Take {
             answer: Taken::Refused(why),
             lengths,
             counts,
@@ -70,7 +70,7 @@ pub fn taken_on(pool: Pool, new: &[u8]) -> Take
 }
 
 pub fn case_k() -> Pool
-    ensures { λ r. ⌜ (loadedAs (r .answer), rooms (r .lengths) (r .counts) (r .text)) ≡ called (cases.k .asked) ⌝ }
+    ensures { λ r. ⌜ (pooledAs (r .answer), rooms (r .lengths) (r .counts) (r .text)) ≡ called (cases.k .asked) ⌝ }
 {
     let pool = [
         0xE4u8,

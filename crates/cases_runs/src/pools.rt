@@ -3,7 +3,7 @@ use crate::said;
 use cases::Pool;
 use cases::Take;
 use stringpool::Counted;
-use stringpool::Loaded;
+use stringpool::Pooled;
 use stringpool::StringPool;
 use stringpool::Taken;
 
@@ -55,11 +55,11 @@ fn pool(label: &[u8], s: Pool) {
     let answer = s.answer;
     said::words(label);
     match answer {
-        Loaded::Ready(p) => {
+        Pooled::Is(p) => {
             code_page(p);
             entries(p, &lengths, &counts, &text);
         }
-        Loaded::Refused(r) => said::reason(r),
+        Pooled::Refused(r) => said::reason(r),
     }
     said::newline();
 }

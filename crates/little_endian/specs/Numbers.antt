@@ -30,6 +30,6 @@ putAnswer n width out at = if length out <? at + width then refused 7 nowhere el
 abbrev pub putOutcome : ℕ → ℕ → List ℕ → ℕ → Answer ℕ × List ℕ
 putOutcome n width out at = outcome out (putAnswer n width out at)
 
-abbrev pub putAs : Written → Answer ℕ
-putAs (Bytes n) = gives n
-putAs (Refused x) = refusedBy x
+abbrev pub writtenAs : Written → Answer ℕ
+writtenAs (Bytes n) = gives n
+writtenAs (Refused x) = refusedBy x

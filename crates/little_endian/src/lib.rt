@@ -4,7 +4,7 @@ ghost use mathlib.Core.Path.{_≡_};
 ghost use Prim.Native.Nat.{_+_, _≤_, min};
 ghost use lib.ListN.{length, getD};
 ghost use Rattle.common.specs.Lists.{overAt};
-ghost use Rattle.little_endian.specs.Numbers.{bytesOf, readAnswer, putAs, putOutcome};
+ghost use Rattle.little_endian.specs.Numbers.{bytesOf, readAnswer, writtenAs, putOutcome};
 
 // A number read or written has at most four bytes.
 const MAX_WIDTH: usize = 4;
@@ -49,7 +49,7 @@ fn byte_at(bytes: &[u8], at: usize, i: usize) -> u32
 
 // Writes the lowest `width` bytes of `number` to `out` from `at` on.
 pub fn write(number: u32, width: usize, out: &mut [u8], at: usize) -> Written
-    ensures { λ r. ⌜ (putAs r, now (out .exit)) ≡ putOutcome number width (now (out .entry)) at ⌝ }
+    ensures { λ r. ⌜ (writtenAs r, now (out .exit)) ≡ putOutcome number width (now (out .entry)) at ⌝ }
 {
     if out.len() < at {
         return Written::Refused(Refusal::OutputRoom);

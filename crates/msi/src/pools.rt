@@ -8,8 +8,6 @@ use c_types::answers::TakeAnswer;
 use c_types::answers::none;
 use c_types::answers::refused_count;
 use c_types::pools::from_counted;
-use c_types::pools::from_dropped;
-use c_types::pools::from_loaded;
 use c_types::pools::from_made;
 use c_types::pools::from_pooled;
 use c_types::pools::from_showable;
@@ -59,7 +57,7 @@ pub extern "C" fn strandroost_load(
     ensures { λ r. ⌜ (r, rooms (now (lengths .exit)) (now (counts .exit)) (now (text .exit)))
         ≡ answeredAs poolIn (loadOutcome (now (pool .entry)) (now («data» .entry)) (rooms (now (lengths .entry)) (now (counts .entry)) (now (text .entry)))) ⌝ }
 {
-    from_loaded(StringPool::load(pool, data, lengths, counts, text))
+    from_pooled(StringPool::load(pool, data, lengths, counts, text))
 }
 
 #[no_mangle]
@@ -166,7 +164,7 @@ pub extern "C" fn strandroost_decref(
         ≡ answeredAs poolIn (dropOutcome (stateIn pool) (rooms (now (lengths .entry)) (now (counts .entry)) (now (text .entry))) number) ⌝ }
 {
     let was = state(pool);
-    from_dropped(was.decref(lengths, counts, text, number))
+    from_pooled(was.decref(lengths, counts, text, number))
 }
 
 #[no_mangle]

@@ -12,7 +12,7 @@ ghost use Prim.Native.Nat.{_+_, _*_, _≤_};
 ghost use lib.ListN.{length, take};
 ghost use Rattle.common.specs.Lists.{overAt};
 ghost use Rattle.common.specs.Answers.{outcome, writtenTo};
-ghost use Rattle.little_endian.specs.Numbers.{putAs};
+ghost use Rattle.little_endian.specs.Numbers.{writtenAs};
 ghost use Rattle.pool_entries.specs.Entries.{rooms};
 ghost use Rattle.pool_stream.specs.Entries.{entryBytes, markOf};
 ghost use Rattle.pool_stream.specs.Write.{streamOutcome};
@@ -28,7 +28,7 @@ pub fn write_stream(
     text: &[u8],
     out: &mut [u8],
 ) -> Written
-    ensures { λ a. ⌜ (putAs a, now (out .exit)) ≡ streamOutcome «num_strings» «long_string_refs» codepage
+    ensures { λ a. ⌜ (writtenAs a, now (out .exit)) ≡ streamOutcome «num_strings» «long_string_refs» codepage
         (rooms (now (lengths .entry)) (now (counts .entry)) (now (text .entry))) (now (out .entry)) ⌝ }
 {
     let state = judge(num_strings, codepage, lengths, counts, text);
@@ -61,7 +61,7 @@ fn mark(long: bool, codepage: u32) -> u32
 // Writes a mark and n entries, which are there.
 fn write_fitting(mark: u32, n: usize, lengths: &[u32], counts: &[u16], out: &mut [u8]) -> Written
     requires { ⌜ (n ≤ length (now lengths)) × (n ≤ length (now counts)) × (n ≤ 16777215) ⌝ }
-    ensures { λ a. ⌜ (putAs a, now (out .exit)) ≡ outcome (now (out .entry))
+    ensures { λ a. ⌜ (writtenAs a, now (out .exit)) ≡ outcome (now (out .entry))
         (writtenTo (now (out .entry)) (streamBy mark n (now (lengths .entry)) (now (counts .entry)))) ⌝ }
 {
     let size = 4 + entries_size(n, lengths, counts);

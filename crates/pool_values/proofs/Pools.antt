@@ -18,9 +18,8 @@ use Rattle.stringpool.specs.declared.takes.Taken.{Taken}
 use Rattle.stringpool.specs.declared.takes.Taken.the-variants as taken
 use Rattle.stringpool.specs.declared.shows.Showable.{Showable}
 use Rattle.stringpool.specs.declared.shows.Showable.the-variants as showable
-use Rattle.stringpool.specs.Pool.{Rooms, sound, onSound}
+use Rattle.stringpool.specs.Pool.{Rooms, sound, onSound, pooledAs}
 use Rattle.stringpool.specs.Take.{takenAs, takeAnswer, firstFreeOrEqual}
-use Rattle.stringpool.specs.Drop.{droppedAs}
 use Rattle.stringpool.specs.Show.{showAnswer, showableAs, orEmpty}
 use Rattle.cell.specs.Kinds.{refKind, refNumber as numberOfValue, valueKind, valueNumber}
 use Rattle.pool_values.specs.Pooled.{createdAs, createOutcome, shownAs, shownAnswer, textAnswer}
@@ -80,7 +79,7 @@ created t w left a e =
 -- ---- a value that is no text leaves the pool as it is
 
 pub kept : {A : Type 0} (p : StringPool) (w : Rooms) (a : A) (s : Showable) → showableAs s ≡ refusalOf (onSound p w (gives a))
-    → (droppedAs (keptBy p s), w) ≡ outcome w (onSound p w (gives (p, w)))
+    → (pooledAs (keptBy p s), w) ≡ outcome w (onSound p w (gives (p, w)))
 kept p w a showable.Yes e = sym (ap (outcome w) (is-sound p w a (gives (p, w)) e))
 kept p w a (showable.Refused x) e = sym (ap (outcome w) (unsound p w a (gives (p, w)) (numberOf x) (whereOf x) e))
 

@@ -3,14 +3,13 @@ pub use cell::Value;
 use cell::ValueRef;
 use common::Refusal;
 use common::sizes::MAX_BYTES;
-use stringpool::Dropped;
+use stringpool::Pooled;
 use stringpool::Showable;
 use stringpool::StringPool;
 use stringpool::StringRef;
 use stringpool::Taken;
 ghost use mathlib.Core.Path.{_≡_};
-ghost use Rattle.stringpool.specs.Pool.{rooms};
-ghost use Rattle.stringpool.specs.Drop.{droppedAs};
+ghost use Rattle.stringpool.specs.Pool.{rooms, pooledAs};
 ghost use Rattle.stringpool.specs.Show.{orEmpty};
 ghost use Rattle.cell.specs.Kinds.{refKind, refNumber, valueKind, valueNumber};
 ghost use Rattle.pool_values.specs.Pooled.{createdAs, createOutcome, removeOutcome, shownAs, shownAnswer, textAnswer};
@@ -60,8 +59,8 @@ pub fn remove(
     lengths: &mut [u32],
     counts: &mut [u16],
     text: &mut [u8],
-) -> Dropped
-    ensures { λ a. ⌜ (droppedAs a, rooms (now (lengths .exit)) (now (counts .exit)) (now (text .exit)))
+) -> Pooled
+    ensures { λ a. ⌜ (pooledAs a, rooms (now (lengths .exit)) (now (counts .exit)) (now (text .exit)))
         ≡ removeOutcome (refKind value) (refNumber value) pool (rooms (now (lengths .entry)) (now (counts .entry)) (now (text .entry))) ⌝ }
 {
     if is_reference(value) {
@@ -127,12 +126,12 @@ fn plain_of(value: Value) -> ValueRef
     }
 }
 
-fn kept_by(pool: StringPool, sound: Showable) -> Dropped
+fn kept_by(pool: StringPool, sound: Showable) -> Pooled
     ensures { λ r. ⌜ r ≡ keptBy pool sound ⌝ }
 {
     match sound {
-        Showable::Yes => Dropped::Done(pool),
-        Showable::Refused(refusal) => Dropped::Refused(refusal),
+        Showable::Yes => Pooled::Is(pool),
+        Showable::Refused(refusal) => Pooled::Refused(refusal),
     }
 }
 

@@ -6,8 +6,7 @@ use commands::words::end_of;
 use commands::words::front;
 use commands::words::number_at;
 use stringpool::Counted;
-use stringpool::Dropped;
-use stringpool::Loaded;
+use stringpool::Pooled;
 use stringpool::StringPool;
 use stringpool::Taken;
 use stringpool::Written;
@@ -47,7 +46,7 @@ pub(crate) fn load(
     let m = bytes_in(s, second, end_of(s, second, false), &mut data);
     let answer = StringPool::load(front(&stream, n), front(&data, m), lengths, counts, text);
     match answer {
-        Loaded::Ready(made) => {
+        Pooled::Is(made) => {
             shown::say(b"ok ");
             shown::number(made.codepage as usize);
             shown::say(b" ");
@@ -56,7 +55,7 @@ pub(crate) fn load(
             shown::number(made.num_strings);
             made
         }
-        Loaded::Refused(why) => {
+        Pooled::Refused(why) => {
             shown::refused(why);
             pool
         }
@@ -97,11 +96,11 @@ pub(crate) fn drop(
 ) -> StringPool {
     let answer = pool.decref(lengths, counts, text, reference(s, at));
     match answer {
-        Dropped::Done(after) => {
+        Pooled::Is(after) => {
             shown::say(b"ok");
             after
         }
-        Dropped::Refused(why) => {
+        Pooled::Refused(why) => {
             shown::refused(why);
             pool
         }

@@ -1,19 +1,13 @@
--- What is written: the data stream by the lengths is that by the entries, and a layer's answer is the pool's.
+-- What is written: the data stream by the lengths is that by the entries.
 use mathlib.Core.Path.{_≡_, sym, ap, _∙_}
 use Prim.Native.Nat.{ℕ}
-use mathlib.Core.List.{List}
 use lib.ListN.{take}
-use Rattle.common.specs.Answers.{Answer}
 use Rattle.common.specs.Lists.{total}
 use Rattle.stringpool.specs.Pool.{Rooms}
 use Rattle.stringpool.specs.Write.{dataBytes}
 use Rattle.stringpool.specs.inner.Entries.{Fit}
 use Rattle.stringpool.specs.declared.pool.StringPool.{StringPool}
 use Rattle.stringpool.proofs.Entries.{both, texts-cut}
-
--- an answer by another name
-pub answered : {a b : Answer ℕ} {left : List ℕ} {goal : Answer ℕ × List ℕ} → a ≡ b → (b, left) ≡ goal → (a, left) ≡ goal
-answered {left = left} e f = ap (λ (x : Answer ℕ). (x, left)) e ∙ f
 
 pub data-same : (p : StringPool) (w : Rooms) → Fit (p .«num_strings») w → {u : ℕ} → u ≡ total (take (p .«num_strings») (w .lengths)) → take u (w .text) ≡ dataBytes p w
 data-same p w fit e =

@@ -6,12 +6,9 @@ use lib.IntN.{ℤ}
 use Rattle.common.specs.Choice.{if_then_else_, _≤?_}
 use Rattle.common.specs.Answers.{Answer, gives, onGiven, outcome}
 use Rattle.order.specs.Order.{dropFits}
-use Rattle.common.specs.Refusals.{refusedBy}
 use Rattle.stringpool.specs.Pool.{Entry, entry, Rooms, entriesOf, putBack, onSound}
 use Rattle.stringpool.specs.Refs.{onReference}
 use Rattle.stringpool.specs.declared.pool.StringPool.{StringPool}
-use Rattle.stringpool.specs.declared.drops.Dropped.{Dropped}
-use Rattle.stringpool.specs.declared.drops.Dropped.the-variants as dropped
 
 -- "count down; at 0 the text goes"; of a count of 0 there is no drop (10)
 abbrev pub lessened : Entry → Entry
@@ -29,7 +26,3 @@ dropAnswer p w r = onSound p w (onReference r (dropAt p w))
 
 abbrev pub dropOutcome : StringPool → Rooms → ℤ → Answer StringPool × Rooms
 dropOutcome p w r = outcome w (dropAnswer p w r)
-
-abbrev pub droppedAs : Dropped → Answer StringPool
-droppedAs (dropped.Done p) = gives p
-droppedAs (dropped.Refused x) = refusedBy x

@@ -5,14 +5,11 @@ use lib.ListN.{length, take}
 use Rattle.common.specs.Choice.{_≤?_}
 use Rattle.common.specs.Lists.{_over_, total}
 use Rattle.common.specs.Answers.{Answer, gives, outcome, onGiven}
-use Rattle.common.specs.Refusals.{refusedBy}
 use Rattle.little_endian.specs.Numbers.{numberAt}
 use Rattle.order.specs.Order.{streamsFit, loadFits}
 pub use Rattle.pool_stream.specs.Entries.{Found, one, cut, ends, entryIn, withEntry, onFound, entriesIn, poolEntries}
 use Rattle.stringpool.specs.Pool.{Rooms, rooms, entryRoom}
 use Rattle.stringpool.specs.declared.pool.StringPool.{StringPool}
-use Rattle.stringpool.specs.declared.load.Loaded.{Loaded}
-use Rattle.stringpool.specs.declared.load.Loaded.the-variants as loaded
 
 -- "Four bytes: bit 31 says long references (3 bytes), the rest is the code page."
 abbrev pub poolFrom : List ℕ → ℕ → StringPool
@@ -33,7 +30,3 @@ loadAnswer s d w = onGiven (streamsFit (length s) (length d) (length (w .text)))
 
 abbrev pub loadOutcome : List ℕ → List ℕ → Rooms → Answer StringPool × Rooms
 loadOutcome s d w = outcome w (loadAnswer s d w)
-
-abbrev pub loadedAs : Loaded → Answer StringPool
-loadedAs (loaded.Ready p) = gives p
-loadedAs (loaded.Refused x) = refusedBy x

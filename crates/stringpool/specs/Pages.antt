@@ -2,12 +2,9 @@
 use Prim.Native.Nat.{ℕ}
 use mathlib.Core.Bool.{false}
 use Rattle.common.specs.Answers.{Answer, gives, onGiven}
-use Rattle.common.specs.Refusals.{refusedBy}
 use Rattle.order.specs.Order.{pageFits}
 use Rattle.stringpool.specs.Pool.{Rooms, onSound}
 use Rattle.stringpool.specs.declared.pool.StringPool.{StringPool}
-use Rattle.stringpool.specs.declared.pages.Pooled.{Pooled}
-use Rattle.stringpool.specs.declared.pages.Pooled.the-variants as pooled
 
 -- "code page above 2,147,483,647"
 abbrev pub pageAnswer : StringPool → ℕ → Answer StringPool
@@ -20,7 +17,3 @@ newAnswer page = pageAnswer (record { «num_strings» = 0; «long_string_refs» 
 
 abbrev pub setPageAnswer : StringPool → Rooms → ℕ → Answer StringPool
 setPageAnswer p w page = onSound p w (pageAnswer p page)
-
-abbrev pub pooledAs : Pooled → Answer StringPool
-pooledAs (pooled.Is p) = gives p
-pooledAs (pooled.Refused x) = refusedBy x

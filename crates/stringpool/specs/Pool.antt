@@ -4,8 +4,11 @@ use mathlib.Core.Bool.{Bool}
 use mathlib.Core.List.{List, _++_, map}
 use lib.ListN.{length, take, replicate}
 use Rattle.common.specs.Lists.{_over_, joined, total}
-use Rattle.common.specs.Answers.{Answer}
+use Rattle.common.specs.Answers.{Answer, gives}
+use Rattle.common.specs.Refusals.{refusedBy}
 use Rattle.stringpool.specs.declared.pool.StringPool.{StringPool}
+use Rattle.stringpool.specs.declared.pool.Pooled.{Pooled}
+use Rattle.stringpool.specs.declared.pool.Pooled.the-variants as pooled
 use Rattle.pool_entries.specs.Entries as entries
 use Rattle.pool_entries.specs.Sound as state
 pub use Rattle.pool_entries.specs.Entries.{Entry, entry, Rooms, rooms, cut, entryRoom, free, all}
@@ -31,3 +34,7 @@ sound p w = state.soundRooms (p .«num_strings») (p .codepage) w
 -- "Order: 22 first, then 24."
 abbrev pub onSound : {A : Type 0} → StringPool → Rooms → Answer A → Answer A
 onSound p w a = state.onSoundRooms (p .«num_strings») (p .codepage) w a
+
+abbrev pub pooledAs : Pooled → Answer StringPool
+pooledAs (pooled.Is p) = gives p
+pooledAs (pooled.Refused x) = refusedBy x

@@ -1,13 +1,11 @@
 -- The pool stream and the data stream of a pool, and what writing one answers and leaves.
 use Prim.Native.Nat.{ℕ}
 use mathlib.Core.List.{List}
-use Rattle.common.specs.Answers.{Answer, gives, outcome, writtenTo}
-use Rattle.common.specs.Refusals.{refusedBy}
+use Rattle.common.specs.Answers.{Answer, outcome, writtenTo}
+pub use Rattle.little_endian.specs.Numbers.{writtenAs}
 pub use Rattle.pool_stream.specs.Entries.{shortOf, wide, entryBytes, markOf, streamBytes}
 use Rattle.stringpool.specs.Pool.{Rooms, entriesOf, texts, onSound}
 use Rattle.stringpool.specs.declared.pool.StringPool.{StringPool}
-use Rattle.stringpool.specs.declared.writes.Written.{Written}
-use Rattle.stringpool.specs.declared.writes.Written.the-variants as written
 
 -- the mark, "then entries"
 abbrev pub poolBytes : StringPool → Rooms → List ℕ
@@ -24,7 +22,3 @@ writeAnswer bytes out = writtenTo out bytes
 -- 22, 24, 7
 abbrev pub writeOutcome : StringPool → Rooms → List ℕ → List ℕ → Answer ℕ × List ℕ
 writeOutcome p w bytes out = outcome out (onSound p w (writeAnswer bytes out))
-
-abbrev pub writtenAs : Written → Answer ℕ
-writtenAs (written.Bytes n) = gives n
-writtenAs (written.Refused x) = refusedBy x

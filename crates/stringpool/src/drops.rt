@@ -5,6 +5,7 @@ use crate::entry::count_of;
 use crate::entry::start_of;
 use crate::judge::Judged;
 use crate::judge::judge;
+use crate::pool::Pooled;
 use crate::pool::StringPool;
 use crate::refs::Placed;
 use crate::refs::place;
@@ -18,16 +19,11 @@ ghost use mathlib.Core.List.{List, []};
 ghost use lib.ListN.{length, take};
 ghost use Rattle.common.specs.Lists.{total};
 ghost use Rattle.common.specs.Answers.{outcome};
-ghost use Rattle.stringpool.specs.Pool.{rooms};
+ghost use Rattle.stringpool.specs.Pool.{rooms, pooledAs};
 ghost use Rattle.stringpool.specs.Refs.{onReference};
-ghost use Rattle.stringpool.specs.Drop.{droppedAs, dropAt, dropOutcome};
+ghost use Rattle.stringpool.specs.Drop.{dropAt, dropOutcome};
 ghost use Rattle.stringpool.specs.inner.Drop.{droppedBy};
 ghost use Rattle.stringpool.specs.inner.Plan.{Planned};
-
-pub enum Dropped {
-    Done(StringPool),
-    Refused(Refusal),
-}
 
 impl StringPool {
     // One reference less on a number; at 0 the entry's text goes.
@@ -37,8 +33,8 @@ impl StringPool {
         counts: &mut [u16],
         text: &mut [u8],
         number: i32,
-    ) -> Dropped
-        ensures { λ a. ⌜ (droppedAs a, rooms (now (lengths .exit)) (now (counts .exit)) (now (text .exit)))
+    ) -> Pooled
+        ensures { λ a. ⌜ (pooledAs a, rooms (now (lengths .exit)) (now (counts .exit)) (now (text .exit)))
             ≡ dropOutcome self (rooms (now (lengths .entry)) (now (counts .entry)) (now (text .entry))) number ⌝ }
     {
         let plan = plan_drop(self, lengths, counts, text, number);
@@ -61,19 +57,19 @@ fn plan_drop(p: StringPool, lengths: &[u32], counts: &[u16], text: &[u8], number
 }
 
 // What a drop of that plan answers.
-fn drop_answer(p: StringPool, plan: Plan) -> Dropped
-    ensures { λ r. ⌜ droppedAs r ≡ droppedBy p plan ⌝ }
+fn drop_answer(p: StringPool, plan: Plan) -> Pooled
+    ensures { λ r. ⌜ pooledAs r ≡ droppedBy p plan ⌝ }
 {
     match plan {
-        Plan::Refused(why) => Dropped::Refused(why),
-        Plan::Count(_, _) => Dropped::Done(p),
+        Plan::Refused(why) => Pooled::Refused(why),
+        Plan::Count(_, _) => Pooled::Is(p),
         Plan::Put {
             at: _,
             start: _,
             old: _,
             used: _,
             count: _,
-        } => Dropped::Done(p),
+        } => Pooled::Is(p),
     }
 }
 

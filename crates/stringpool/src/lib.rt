@@ -12,13 +12,11 @@ mod shows;
 mod takes;
 mod writes;
 
-pub use crate::drops::Dropped;
-pub use crate::load::Loaded;
-pub use crate::pages::Pooled;
+pub use crate::pool::Pooled;
 pub use crate::pool::StringPool;
 pub use crate::shows::Counted;
 pub use crate::shows::Showable;
 pub use crate::takes::Taken;
-pub use crate::writes::Written;
 pub use common::Made;
 pub use common::StringRef;
+pub use little_endian::Written;

@@ -1,18 +1,13 @@
 // Loading a pool stream and a data stream into the lent rooms.
+use crate::pool::Pooled;
 use crate::pool::StringPool;
-use common::Refusal;
 use little_endian::read;
 use pool_stream::LoadPlan;
 use pool_stream::load_entries;
 use text_room::copy_in;
 ghost use mathlib.Core.Path.{_≡_};
-ghost use Rattle.stringpool.specs.Pool.{rooms};
-ghost use Rattle.stringpool.specs.Load.{poolFrom, loadedAs, loadOutcome};
-
-pub enum Loaded {
-    Ready(StringPool),
-    Refused(Refusal),
-}
+ghost use Rattle.stringpool.specs.Pool.{rooms, pooledAs};
+ghost use Rattle.stringpool.specs.Load.{poolFrom, loadOutcome};
 
 impl StringPool {
     // Loads a pool stream and a data stream into the lent rooms.
@@ -22,16 +17,16 @@ impl StringPool {
         lengths: &mut [u32],
         counts: &mut [u16],
         text: &mut [u8],
-    ) -> Loaded
-        ensures { λ a. ⌜ (loadedAs a, rooms (now (lengths .exit)) (now (counts .exit)) (now (text .exit)))
+    ) -> Pooled
+        ensures { λ a. ⌜ (pooledAs a, rooms (now (lengths .exit)) (now (counts .exit)) (now (text .exit)))
             ≡ loadOutcome (now (pool .entry)) (now (texts .entry)) (rooms (now (lengths .entry)) (now (counts .entry)) (now (text .entry))) ⌝ }
     {
         let plan = load_entries(pool, texts.len(), text.len(), lengths, counts);
         match plan {
-            LoadPlan::Refused(why) => Loaded::Refused(why),
+            LoadPlan::Refused(why) => Pooled::Refused(why),
             LoadPlan::Of(n, used) => {
                 copy_in(&texts[..used], text);
-                Loaded::Ready(pool_from(pool, n))
+                Pooled::Is(pool_from(pool, n))
             }
         }
     }

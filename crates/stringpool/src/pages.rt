@@ -1,18 +1,13 @@
 // An empty pool, and a pool with another code page.
 use crate::judge::Judged;
 use crate::judge::judge;
+use crate::pool::Pooled;
 use crate::pool::StringPool;
-use common::Refusal;
 use order::Fits;
 use order::page_fits;
 ghost use mathlib.Core.Path.{_≡_};
-ghost use Rattle.stringpool.specs.Pool.{rooms};
-ghost use Rattle.stringpool.specs.Pages.{pooledAs, newAnswer, pageAnswer, setPageAnswer};
-
-pub enum Pooled {
-    Is(StringPool),
-    Refused(Refusal),
-}
+ghost use Rattle.stringpool.specs.Pool.{rooms, pooledAs};
+ghost use Rattle.stringpool.specs.Pages.{newAnswer, pageAnswer, setPageAnswer};
 
 impl StringPool {
     // An empty pool with short references.

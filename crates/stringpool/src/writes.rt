@@ -2,7 +2,7 @@
 use crate::judge::Judged;
 use crate::judge::judge;
 use crate::pool::StringPool;
-use common::Refusal;
+use little_endian::Written;
 use pool_stream::write_stream;
 use text_room::copy_in;
 ghost use mathlib.Core.Path.{_≡_};
@@ -10,23 +10,8 @@ ghost use Prim.Native.Nat.{_≤_};
 ghost use lib.ListN.{length, take};
 ghost use Rattle.common.specs.Answers.{outcome};
 ghost use Rattle.stringpool.specs.Pool.{rooms};
-ghost use Rattle.little_endian.specs.Numbers as little;
-ghost use Rattle.stringpool.specs.Write.{poolBytes, dataBytes, writeAnswer, writeOutcome, writtenAs};
-
-pub enum Written {
-    Bytes(usize),
-    Refused(Refusal),
-}
-
-// What the layers answer, as the pool does.
-fn answer(written: little_endian::Written) -> Written
-    ensures { λ r. ⌜ writtenAs r ≡ little.putAs written ⌝ }
-{
-    match written {
-        little_endian::Written::Bytes(size) => Written::Bytes(size),
-        little_endian::Written::Refused(why) => Written::Refused(why),
-    }
-}
+ghost use Rattle.little_endian.specs.Numbers.{writtenAs};
+ghost use Rattle.stringpool.specs.Write.{poolBytes, dataBytes, writeAnswer, writeOutcome};
 
 // Writes the used part of the text room: the texts in entry order.
 fn write_texts(text: &[u8], used: usize, out: &mut [u8]) -> Written
@@ -34,7 +19,7 @@ fn write_texts(text: &[u8], used: usize, out: &mut [u8]) -> Written
     ensures { λ a. ⌜ (writtenAs a, now (out .exit)) ≡ outcome (now (out .entry))
         (writeAnswer (take used (now (text .entry))) (now (out .entry))) ⌝ }
 {
-    answer(copy_in(&text[..used], out))
+    copy_in(&text[..used], out)
 }
 
 impl StringPool {
@@ -45,7 +30,7 @@ impl StringPool {
     {
         let n = self.num_strings;
         let long = self.long_string_refs;
-        answer(write_stream(n, long, self.codepage, lengths, counts, text, out))
+        write_stream(n, long, self.codepage, lengths, counts, text, out)
     }
 
     // Writes the data stream.

@@ -8,7 +8,7 @@ ghost use Prim.Native.Nat.{_+_, _-_, _≤_, _<_};
 ghost use lib.ListN.{length, drop, replicate};
 ghost use lib.Seq.{paste};
 ghost use Rattle.order.specs.Order.{fitsAs};
-ghost use Rattle.little_endian.specs.Numbers.{putAs};
+ghost use Rattle.little_endian.specs.Numbers.{writtenAs};
 ghost use Rattle.text_room.specs.Texts.{splice, replaceFits, replaceOutcome, copyOutcome};
 
 // Moves size bytes from `from` down to `to`, the first byte first.
@@ -130,7 +130,7 @@ pub fn replace(text: &mut [u8], start: usize, old: usize, used: usize, new: &[u8
 
 // Writes the bytes to the front of the output.
 pub fn copy_in(bytes: &[u8], out: &mut [u8]) -> Written
-    ensures { λ r. ⌜ (putAs r, now (out .exit)) ≡ copyOutcome (now (bytes .entry)) (now (out .entry)) ⌝ }
+    ensures { λ r. ⌜ (writtenAs r, now (out .exit)) ≡ copyOutcome (now (bytes .entry)) (now (out .entry)) ⌝ }
 {
     if bytes.len() > MAX_BYTES {
         return Written::Refused(Refusal::OverSize);

@@ -2,8 +2,8 @@
 use Rattle.stringpool.specs.declared.pool.StringPool.{StringPool}
 use Rattle.stringpool.specs.declared.takes.Taken.{Taken}
 use Rattle.stringpool.specs.declared.takes.Taken.the-variants as taken
-use Rattle.stringpool.specs.declared.drops.Dropped.{Dropped}
-use Rattle.stringpool.specs.declared.drops.Dropped.the-variants as dropped
+use Rattle.stringpool.specs.declared.pool.Pooled.{Pooled}
+use Rattle.stringpool.specs.declared.pool.Pooled.the-variants as pooled
 use Rattle.stringpool.specs.declared.shows.Showable.{Showable}
 use Rattle.stringpool.specs.declared.shows.Showable.the-variants as showable
 use Rattle.cell.specs.declared.value.ValueRef.{ValueRef}
@@ -23,9 +23,9 @@ plainOf (plain.Int n) = ref.Int n
 plainOf plain.Str = ref.Null
 plainOf plain.Binary = ref.Binary
 
-abbrev pub keptBy : StringPool → Showable → Dropped
-keptBy p showable.Yes = dropped.Done p
-keptBy p (showable.Refused x) = dropped.Refused x
+abbrev pub keptBy : StringPool → Showable → Pooled
+keptBy p showable.Yes = pooled.Is p
+keptBy p (showable.Refused x) = pooled.Refused x
 
 abbrev pub shownOf : ValueRef → Value
 shownOf ref.Null = plain.Null

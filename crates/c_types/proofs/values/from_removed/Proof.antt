@@ -1,6 +1,6 @@
 use mathlib.Core.Path.{sym, ap, _∙_}
 use Rattle.common.specs.Answers.{nowhere}
-use Rattle.stringpool.specs.Drop.{droppedAs}
+use Rattle.stringpool.specs.Pool.{pooledAs}
 use Rattle.c_types.specs.Pools.{poolIn}
 use Rattle.c_types.proofs.Unknown.{kept-refused}
 use borrow.Author.Needs.{needs}
@@ -14,7 +14,7 @@ returns-2 : tie.Need-returns-2
 returns-2 c = simp (c .given-pool .ensures, c .before .before .before .before .answer .given .1, sym (c .before .before .is-unknown .ensures) ∙ c .before .if1 .left)
 
 returns-3 : tie.Need-returns-3
-returns-3 c = kept-refused poolIn nowhere (c .before .before .before .before .before .args .kind) (ap droppedAs (c .before .before .before .answer2 .given .1)) (simp (c .no-pool2 .ensures, c .before .told .ensures))
+returns-3 c = kept-refused poolIn nowhere (c .before .before .before .before .before .args .kind) (ap pooledAs (c .before .before .before .answer2 .given .1)) (simp (c .no-pool2 .ensures, c .before .told .ensures))
 
 pub from-removed-spec : {M : Type 1} → statement M
 from-removed-spec =

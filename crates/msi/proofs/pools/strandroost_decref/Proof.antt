@@ -18,7 +18,7 @@ returns c =
     let z : ℤ = s .number in
     let fits : SFits w32 z = search needs in
     let back : toZ w32 (ofZ w32 z) ≡ z = toZ-ofZ w32 z fits in
-    hands poolIn (c .from-dropped .ensures) (rw (c .before .before .before .before .before .before .before .before .before .before .before .state .ensures) at (c .before .before .before .before .before .before .before .decref .ensures) ∙ ap (λ (k : ℤ). dropOutcome (stateIn (s .pool)) (rooms (now (s .lengths)) (now (s .counts)) (now (s .text))) k) back)
+    hands poolIn (c .from-pooled .ensures) (rw (c .before .before .before .before .before .before .before .before .before .before .before .state .ensures) at (c .before .before .before .before .before .before .before .decref .ensures) ∙ ap (λ (k : ℤ). dropOutcome (stateIn (s .pool)) (rooms (now (s .lengths)) (now (s .counts)) (now (s .text))) k) back)
 
 pub strandroost-decref-spec : {M : Type 1} → statement M
 strandroost-decref-spec =

@@ -5,7 +5,7 @@ use Rattle.msi.proofs.pools.strandroost_load.Statement.{statement}
 use Rattle.msi.proofs.pools.strandroost_load.Tie as tie
 
 returns : tie.Need-returns
-returns c = hands poolIn (c .from-loaded .ensures) (c .before .before .before .before .before .before .before .load .ensures)
+returns c = hands poolIn (c .from-pooled .ensures) (c .before .before .before .before .before .before .before .load .ensures)
 
 pub strandroost-load-spec : {M : Type 1} → statement M
 strandroost-load-spec =

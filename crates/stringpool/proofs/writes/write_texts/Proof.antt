@@ -4,7 +4,6 @@ use native.Mathlib.Omega.{arith}
 use lib.ListN.{take}
 use lib.Seq.{length-take-le}
 use Rattle.text_room.proofs.Splice.{copy-small}
-use Rattle.stringpool.proofs.Streams.{answered}
 use borrow.Author.Needs.{needs}
 use Rattle.stringpool.proofs.writes.write_texts.Statement.{statement}
 use Rattle.stringpool.proofs.writes.write_texts.Tie as tie
@@ -12,23 +11,14 @@ use Rattle.stringpool.proofs.writes.write_texts.Tie as tie
 slice-aggregate-copy-in : tie.Need-slice-aggregate-copy-in
 slice-aggregate-copy-in c = let s = c .before .before .before in sym (length-take-le (s .args .used) (s .args .text .now) (s .pre .0))
 
-copy-in-requires : tie.Need-copy-in-requires
-copy-in-requires c κs = search needs
-
-answer-requires : tie.Need-answer-requires
-answer-requires c κs = search needs
-
-same-length : tie.Need-same-length
-same-length c = search needs
-
 returns : tie.Need-returns
 returns c =
-    let s = c .before .before .before .before .before .before .before .before in
+    let s = c .before .before .before .before .before .before .before in
     let u : ℕ = s .args .used in
-    answered (c .answer .ensures) (c .before .before .before .copy-in .ensures
-    ∙ sym (copy-small (take u (s .args .text .now)) (s .args .out .now) (omega (arith, length-take-le u (s .args .text .now) (s .pre .0), s .pre .1))))
+    c .before .before .copy-in .ensures
+    ∙ sym (copy-small (take u (s .args .text .now)) (s .args .out .now) (omega (arith, length-take-le u (s .args .text .now) (s .pre .0), s .pre .1)))
 
 pub write-texts-spec : {M : Type 1} → statement M
 write-texts-spec =
     tie.close
-    (tie.spec slice-aggregate-copy-in copy-in-requires answer-requires same-length returns)
+    (tie.spec slice-aggregate-copy-in (λ c κs. search needs) (λ c. search needs) returns)

@@ -11,14 +11,18 @@ use lib.Dec.{ltb, leb, eqb}
 use borrow.Author.Tests.{ltb-true, ltb-false, leb-true, le-ltb, lt-ltb, le-leb, lt-leb, ne-eqb}
 use Rattle.common.specs.Choice.{if_then_else_, _≤?_, _=?_}
 use Rattle.common.specs.Lists.{total}
-use Rattle.common.specs.Answers.{Answer, refused, nowhere}
+use Rattle.common.specs.Answers.{Answer, gives, refused, nowhere}
 use Rattle.pool_entries.specs.Entries.{Entry, Rooms, cut, entryRoom, free, all}
 use Rattle.pool_entries.specs.Sound.{soundRooms, onSoundRooms}
 use Rattle.pool_entries.specs.inner.Fit.{Fit}
 use Rattle.pool_entries.specs.inner.Adding.{Short}
 use Rattle.pool_entries.specs.inner.Look.{SmallTo}
 use Rattle.pool_entries.specs.inner.Sound.{smallB, allSmall, sumsB, fitsB, soundB, usedOf}
-use Rattle.pool_entries.specs.declared.judging.Used.the-variants.{Bytes, Unsound}
+use Rattle.common.specs.Refusals.{refusedBy}
+use Rattle.common.specs.declared.refusal.Refusal.{Refusal}
+use Rattle.common.specs.declared.refusal.Refusal.the-variants.{Unsound}
+use Rattle.pool_entries.specs.Calls.{judgedAs}
+use Rattle.pool_entries.specs.declared.judging.State.the-variants.{Sound, Refused}
 
 -- ---- small entries, read from the front
 
@@ -83,25 +87,25 @@ module _ (n : ℕ) (ls cs : List ℕ) (hl : n ≤ length ls) (hc : n ≤ length 
 
   module _ (room u : ℕ) (e : u ≡ total (take n ls)) where
     by-tests : (a b : Bool) → allSmall (take n ls) (take n cs) ≡ a → leb u room ≡ b
-        → usedOf n ls cs room ≡ (if (if a then b else false) then Bytes (total (take n ls)) else Unsound)
+        → usedOf n ls cs room ≡ (if (if a then b else false) then Sound (total (take n ls)) else Refused Unsound)
     by-tests a b f g =
-        ap₂ (λ (x y : Bool). if (if x then y else false) then Bytes (total (take n ls)) else Unsound) f (ap (λ (k : ℕ). leb k room) (sym e) ∙ g)
+        ap₂ (λ (x y : Bool). if (if x then y else false) then Sound (total (take n ls)) else Refused Unsound) f (ap (λ (k : ℕ). leb k room) (sym e) ∙ g)
 
-    pub used-over : room < u → Unsound ≡ usedOf n ls cs room
+    pub used-over : room < u → Refused Unsound ≡ usedOf n ls cs room
     used-over h = sym (by-tests (allSmall (take n ls) (take n cs)) false refl (lt-leb u room h) ∙ go (allSmall (take n ls) (take n cs)))
       where
-        go : (a : Bool) → (if (if a then false else false) then Bytes (total (take n ls)) else Unsound) ≡ Unsound
+        go : (a : Bool) → (if (if a then false else false) then Sound (total (take n ls)) else Refused Unsound) ≡ Refused Unsound
         go true = refl
         go false = refl
 
     module _ (h : u ≤ room) where
-      pub used-sound : allSmall (take n ls) (take n cs) ≡ true → Bytes u ≡ usedOf n ls cs room
-      used-sound s = ap Bytes e ∙ sym (by-tests true true s (le-leb u room h))
+      pub used-sound : allSmall (take n ls) (take n cs) ≡ true → Sound u ≡ usedOf n ls cs room
+      used-sound s = ap Sound e ∙ sym (by-tests true true s (le-leb u room h))
 
-      pub used-unsound : allSmall (take n ls) (take n cs) ≡ false → Unsound ≡ usedOf n ls cs room
+      pub used-unsound : allSmall (take n ls) (take n cs) ≡ false → Refused Unsound ≡ usedOf n ls cs room
       used-unsound s = sym (by-tests false true s (le-leb u room h))
 
-      pub used-short : (at : ℕ) → at ≤ n → SmallTo n ls cs at → Short ls at n → Bytes u ≡ usedOf n ls cs room
+      pub used-short : (at : ℕ) → at ≤ n → SmallTo n ls cs at → Short ls at n → Sound u ≡ usedOf n ls cs room
       used-short at k inv s = used-sound (short-from at k inv s)
 
 -- ---- soundness
@@ -218,15 +222,15 @@ module _ {A : Type 0} (n page : ℕ) (w : Rooms) (a : Answer A) where
       sound-is : (b : Bool) → Sums ≡ b → soundB n page w ≡ b
       sound-is b e = ap (λ (x : Bool). if x then Sums else false) fits ∙ e
 
-      pub judge-unsound : Unsound ≡ usedOf n (w .lengths) (w .counts) (length (w .text)) → refused 24 nowhere ≡ onSoundRooms n page w a
-      judge-unsound e = by-sound false (sound-is false (go Sums e))
+      pub judge-unsound : (x : Refusal) → Refused x ≡ usedOf n (w .lengths) (w .counts) (length (w .text)) → refusedBy x ≡ onSoundRooms n page w a
+      judge-unsound x e = ap refusedBy (go Sums e .1) ∙ by-sound false (sound-is false (go Sums e .0))
         where
-          go : (b : Bool) → Unsound ≡ (if b then Bytes (total (take n (w .lengths))) else Unsound) → b ≡ false
+          go : (b : Bool) → Refused x ≡ (if b then Sound (total (take n (w .lengths))) else Refused Unsound) → (b ≡ false) × (x ≡ Unsound)
           go true q = let y : _≡_ {A = ℕ} 0 1 = cc in absurd (omega arith)
-          go false q = refl
+          go false q = (refl, cc)
 
-      module _ (b : ℕ) (e : Bytes b ≡ usedOf n (w .lengths) (w .counts) (length (w .text))) where
-        go : (c : Bool) → Bytes b ≡ (if c then Bytes (total (take n (w .lengths))) else Unsound) → (c ≡ true) × (b ≡ total (take n (w .lengths)))
+      module _ (b : ℕ) (e : Sound b ≡ usedOf n (w .lengths) (w .counts) (length (w .text))) where
+        go : (c : Bool) → Sound b ≡ (if c then Sound (total (take n (w .lengths))) else Refused Unsound) → (c ≡ true) × (b ≡ total (take n (w .lengths)))
         go true q = (refl, cc)
         go false q = let y : _≡_ {A = ℕ} 0 1 = cc in absurd (omega arith)
 
@@ -241,3 +245,15 @@ module _ {A : Type 0} (n page : ℕ) (w : Rooms) (a : Answer A) where
             let f = fits-few n page (w .lengths) (w .counts) fits in
             let s = then-second (allSmall (take n (w .lengths)) (take n (w .counts))) (leb (total (take n (w .lengths))) (length (w .text))) (go Sums e .0) in
             record { lengths = f .lengths; counts = f .counts; text = leb-true _ _ (s .1) }
+
+-- and the judge's own answer
+pub judge-on : (n page : ℕ) (w : Rooms) → length (w .text) ≤ 268435455 → fitsB n page (w .lengths) (w .counts) ≡ true
+    → judgedAs (usedOf n (w .lengths) (w .counts) (length (w .text))) ≡ onSoundRooms n page w (gives (total (take n (w .lengths))))
+judge-on n page w hw fits = go (sumsB n (w .lengths) (w .counts) (length (w .text))) refl
+  where
+    u : ℕ
+    u = total (take n (w .lengths))
+
+    go : (b : Bool) → sumsB n (w .lengths) (w .counts) (length (w .text)) ≡ b → judgedAs (if b then Sound u else Refused Unsound) ≡ onSoundRooms n page w (gives u)
+    go true e = by-sound n page w (gives u) hw true (sound-is n page w (gives u) hw fits true e)
+    go false e = by-sound n page w (gives u) hw false (sound-is n page w (gives u) hw fits false e)

@@ -6,6 +6,7 @@ use Rattle.common.specs.Sizes.{maxBytes}
 use Rattle.common.specs.Choice.{if_then_else_, _<?_}
 use Rattle.common.specs.Lists.{total}
 use Rattle.common.specs.Answers.{Answer, gives, refused, nowhere}
+use Rattle.common.specs.Refusals.{refusedBy}
 use Rattle.pool_entries.specs.Entries.{Rooms, firstEntries}
 use Rattle.pool_entries.specs.Sound.{onSoundRooms}
 use Rattle.pool_entries.specs.Choose.{firstFreeOrEqual}
@@ -30,10 +31,8 @@ chooseAnswer n codepage w t =
 
 abbrev pub judgedAs : State → Answer ℕ
 judgedAs (state.Sound used) = gives used
-judgedAs state.OverSize = refused 22 nowhere
-judgedAs state.Unsound = refused 24 nowhere
+judgedAs (state.Refused x) = refusedBy x
 
 abbrev pub chosenAs : Choice → Answer (ℕ × ℕ × ℕ)
 chosenAs (choice.At s) = gives (s .place, s .start, s .used)
-chosenAs choice.OverSize = refused 22 nowhere
-chosenAs choice.Unsound = refused 24 nowhere
+chosenAs (choice.Refused x) = refusedBy x

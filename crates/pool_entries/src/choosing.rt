@@ -1,7 +1,7 @@
 // Which entry a take chooses, in a state that is judged in the same pass.
 use crate::adding::block_end;
 use crate::frees::first_free;
-use crate::judging::Used;
+use crate::judging::State;
 use crate::judging::fits;
 use crate::judging::used_after;
 use crate::same::equal_at;
@@ -9,6 +9,7 @@ use crate::same::last_eight;
 use crate::skips::Step;
 use crate::skips::length_at;
 use crate::skips::skip;
+use common::Refusal;
 use common::sizes::MAX_BYTES;
 ghost use mathlib.Core.Path.{_≡_};
 ghost use Prim.Native.Nat.{_+_, _≤_, _<_};
@@ -26,8 +27,7 @@ pub struct Spot {
 
 pub enum Choice {
     At(Spot),
-    OverSize,
-    Unsound,
+    Refused(Refusal),
 }
 
 // The first equal entry of from..to, none of which is free; with none, `to`. The entries before `from` use begin bytes.
@@ -103,20 +103,20 @@ pub fn choose(
     ensures { λ r. ⌜ chosenAs r ≡ chooseAnswer «num_strings» codepage (rooms (now (lengths .entry)) (now (counts .entry)) (now (text .entry))) (now (new .entry)) ⌝ }
 {
     if new.len() > MAX_BYTES {
-        return Choice::OverSize;
+        return Choice::Refused(Refusal::OverSize);
     }
     if text.len() > MAX_BYTES {
-        return Choice::OverSize;
+        return Choice::Refused(Refusal::OverSize);
     }
     if !fits(num_strings, codepage, lengths, counts) {
-        return Choice::Unsound;
+        return Choice::Refused(Refusal::Unsound);
     }
     let s = search(num_strings, lengths, counts, text, new);
     let place = s.0;
     let start = s.1;
     let u = used_after(num_strings, lengths, counts, text.len(), place, start);
     match u {
-        Used::Unsound => Choice::Unsound,
-        Used::Bytes(used) => Choice::At(Spot { place, start, used }),
+        State::Refused(why) => Choice::Refused(why),
+        State::Sound(used) => Choice::At(Spot { place, start, used }),
     }
 }

@@ -1,5 +1,6 @@
 // Whether a state is within the sizes and sound, and how many bytes its texts use.
 use crate::adding::add_up;
+use common::Refusal;
 use common::sizes::MAX_BYTES;
 use common::sizes::MAX_CODEPAGE;
 use common::sizes::MAX_ENTRIES;
@@ -14,13 +15,7 @@ ghost use Rattle.pool_entries.specs.inner.Sound.{fitsB, smallB, allSmall
 // Of a sound state, how many bytes its texts use.
 pub enum State {
     Sound(usize),
-    OverSize,
-    Unsound,
-}
-
-pub(crate) enum Used {
-    Bytes(usize),
-    Unsound,
+    Refused(Refusal),
 }
 
 // Every call on a pool judges its text room's size first, and then its soundness.
@@ -34,16 +29,12 @@ pub fn judge(
     ensures { λ r. ⌜ judgedAs r ≡ judgeAnswer «num_strings» codepage (rooms (now (lengths .entry)) (now (counts .entry)) (now (text .entry))) ⌝ }
 {
     if text.len() > MAX_BYTES {
-        return State::OverSize;
+        return State::Refused(Refusal::OverSize);
     }
     if !fits(num_strings, codepage, lengths, counts) {
-        return State::Unsound;
+        return State::Refused(Refusal::Unsound);
     }
-    let used = used_after(num_strings, lengths, counts, text.len(), 0, 0);
-    match used {
-        Used::Unsound => State::Unsound,
-        Used::Bytes(bytes) => State::Sound(bytes),
-    }
+    used_after(num_strings, lengths, counts, text.len(), 0, 0)
 }
 
 // Entries fit their rooms and number at most 16,777,215, and the code page has 31 bits.
@@ -70,7 +61,7 @@ pub(crate) fn used_after(
     room: usize,
     at: usize,
     start: usize,
-) -> Used
+) -> State
     requires { ⌜ (n ≤ length (now lengths)) × (n ≤ length (now counts)) × (n ≤ 16777215) × (at ≤ n) ⌝ }
     requires { ⌜ SumTo (now lengths) at start × SmallTo n (now lengths) (now counts) at ⌝ }
     ensures { λ r. ⌜ r ≡ usedOf n (now (lengths .entry)) (now (counts .entry)) room ⌝ }
@@ -78,15 +69,15 @@ pub(crate) fn used_after(
     let s = add_up(lengths, at, n);
     let used = start + s.sum as usize;
     if used > room {
-        return Used::Unsound;
+        return State::Refused(Refusal::Unsound);
     }
     if s.bits <= 65535 {
-        return Used::Bytes(used);
+        return State::Sound(used);
     }
     if all_small(n, lengths, counts) {
-        return Used::Bytes(used);
+        return State::Sound(used);
     }
-    Used::Unsound
+    State::Refused(Refusal::Unsound)
 }
 
 // Whether each free entry, of n, has at most 65,535 bytes: looked at only where some entry has more.

@@ -33,8 +33,7 @@ pub fn write_stream(
 {
     let state = judge(num_strings, codepage, lengths, counts, text);
     match state {
-        State::OverSize => Written::Refused(Refusal::OverSize),
-        State::Unsound => Written::Refused(Refusal::Unsound),
+        State::Refused(why) => Written::Refused(why),
         State::Sound(_) => {
             write_fitting(
                 mark(long_string_refs, codepage),

@@ -1,11 +1,8 @@
 pub mod Drop
 pub mod Entries
-pub mod House
 pub mod Loads
-pub mod Look
 pub mod Points
+pub mod Showing
 pub mod Signed
-pub mod Sound
 pub mod Streams
-pub mod Take
 pub mod Taking

@@ -3,16 +3,16 @@ use crate::entry::Plan;
 use crate::entry::carry_out;
 use crate::entry::count_of;
 use crate::entry::start_of;
-use crate::judge::Judged;
-use crate::judge::judge;
 use crate::pool::Pooled;
 use crate::pool::StringPool;
+use crate::refs::EntryPlace;
 use crate::refs::Placed;
 use crate::refs::place;
-use common::Refusal;
 use common::StringRef;
 use order::Fits;
 use order::drop_fits;
+use pool_entries::State;
+use pool_entries::judge;
 ghost use mathlib.Core.Path.{_≡_};
 ghost use Prim.Native.Nat.{ℕ, _≤_};
 ghost use mathlib.Core.List.{List, []};
@@ -49,10 +49,10 @@ fn plan_drop(p: StringPool, lengths: &[u32], counts: &[u16], text: &[u8], number
     ensures { λ r. ⌜ Planned (dropOutcome p (rooms (now (lengths .entry)) (now (counts .entry)) (now (text .entry))) number)
         (droppedBy p r) r (rooms (now (lengths .entry)) (now (counts .entry)) (now (text .entry))) [] ⌝ }
 {
-    let j = judge(p, lengths, counts, text);
-    match j {
-        Judged::Refused(why) => Plan::Refused(why),
-        Judged::Sound(used) => drop_sound(p, lengths, counts, StringRef(number), used),
+    let state = judge(p.num_strings, p.codepage, lengths, counts, text);
+    match state {
+        State::Refused(why) => Plan::Refused(why),
+        State::Sound(used) => drop_sound(p, lengths, counts, StringRef(number), used),
     }
 }
 
@@ -81,9 +81,21 @@ fn drop_sound(p: StringPool, lengths: &[u32], counts: &[u16], r: StringRef, used
         → Planned (outcome (rooms (now (lengths .entry)) (now (counts .entry)) ts) (onReference (r .0) (dropAt p (rooms (now (lengths .entry)) (now (counts .entry)) ts))))
         (droppedBy p a) a (rooms (now (lengths .entry)) (now (counts .entry)) ts) []) ⌝ }
 {
-    let Placed::At(place) = place(r) else {
-        return Plan::Refused(Refusal::ReferenceRange);
-    };
+    let placed = place(r);
+    match placed {
+        Placed::Refused(why) => Plan::Refused(why),
+        Placed::At(place) => drop_at(p, lengths, counts, place, used),
+    }
+}
+
+// The drop on an entry place of a sound pool.
+fn drop_at(p: StringPool, lengths: &[u32], counts: &[u16], place: EntryPlace, used: usize) -> Plan
+    requires { ⌜ (p .«num_strings» ≤ length (now lengths)) × (p .«num_strings» ≤ length (now counts))
+        × (p .«num_strings» ≤ 16777215) × (used ≡ total (take (p .«num_strings») (now lengths))) × (used ≤ 268435455) ⌝ }
+    ensures { λ a. ⌜ ((ts : List ℕ) → used ≤ length ts → length ts ≤ 268435455
+        → Planned (outcome (rooms (now (lengths .entry)) (now (counts .entry)) ts) (dropAt p (rooms (now (lengths .entry)) (now (counts .entry)) ts) (place .0)))
+        (droppedBy p a) a (rooms (now (lengths .entry)) (now (counts .entry)) ts) []) ⌝ }
+{
     let at = place.0;
     let count = count_of(p.num_strings, counts, at);
     let fits = drop_fits(p.num_strings, at, count);

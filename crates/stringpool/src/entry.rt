@@ -3,11 +3,10 @@ use common::Refusal;
 use text_room::replace;
 ghost use mathlib.Core.Path.{_≡_};
 ghost use Prim.Native.Nat.{_≤_, _<_, _^_};
-ghost use lib.ListN.{length, take};
+ghost use lib.ListN.{length, take, getD};
 ghost use Rattle.common.specs.Lists.{total};
 ghost use Rattle.stringpool.specs.Pool.{rooms};
 ghost use Rattle.stringpool.specs.inner.Plan.{carried, Ready};
-ghost use Rattle.stringpool.specs.inner.Show.{countAt};
 
 pub(crate) enum Plan {
     Refused(Refusal),
@@ -57,7 +56,7 @@ pub(crate) fn carry_out(
 // The count of the entry k of n, 0 past the end.
 pub(crate) fn count_of(n: usize, counts: &[u16], k: usize) -> u16
     requires { ⌜ n ≤ length (now counts) ⌝ }
-    ensures { λ r. ⌜ r ≡ countAt n (now (counts .entry)) k ⌝ }
+    ensures { λ r. ⌜ r ≡ getD (take n (now (counts .entry))) k 0 ⌝ }
 {
     if k >= n {
         return 0;

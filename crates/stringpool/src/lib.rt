@@ -1,10 +1,7 @@
 // The string pool: entries with a reference count each, their texts end to end in a lent text room.
-mod choice;
 mod drops;
 mod entry;
-mod judge;
 mod load;
-mod looks;
 mod pages;
 mod pool;
 mod refs;

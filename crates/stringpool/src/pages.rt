@@ -1,10 +1,10 @@
 // An empty pool, and a pool with another code page.
-use crate::judge::Judged;
-use crate::judge::judge;
 use crate::pool::Pooled;
 use crate::pool::StringPool;
 use order::Fits;
 use order::page_fits;
+use pool_entries::State;
+use pool_entries::judge;
 ghost use mathlib.Core.Path.{_≡_};
 ghost use Rattle.stringpool.specs.Pool.{rooms, pooledAs};
 ghost use Rattle.stringpool.specs.Pages.{newAnswer, pageAnswer, setPageAnswer};
@@ -26,10 +26,10 @@ impl StringPool {
     pub fn set_codepage(self, lengths: &[u32], counts: &[u16], text: &[u8], codepage: u32) -> Pooled
         ensures { λ a. ⌜ pooledAs a ≡ setPageAnswer self (rooms (now (lengths .entry)) (now (counts .entry)) (now (text .entry))) codepage ⌝ }
     {
-        let j = judge(self, lengths, counts, text);
-        match j {
-            Judged::Refused(why) => Pooled::Refused(why),
-            Judged::Sound(_) => with_page(self, codepage),
+        let state = judge(self.num_strings, self.codepage, lengths, counts, text);
+        match state {
+            State::Refused(why) => Pooled::Refused(why),
+            State::Sound(_) => with_page(self, codepage),
         }
     }
 }

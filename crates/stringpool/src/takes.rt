@@ -1,15 +1,14 @@
 // Take: one reference more on a text.
-use crate::choice::Chosen;
 use crate::entry::Plan;
 use crate::entry::carry_out;
-use crate::judge::Judged;
-use crate::looks::look;
 use crate::pool::StringPool;
 use crate::refs::EntryPlace;
 use common::Refusal;
 use common::StringRef;
 use order::Fits;
 use order::add_fits;
+use pool_entries::Choice;
+use pool_entries::choose;
 use pool_stream::entry_room;
 ghost use mathlib.Core.Path.{_≡_};
 ghost use Prim.Native.Nat.{ℕ, _≤_, _<_};
@@ -48,26 +47,31 @@ fn plan_take(p: StringPool, lengths: &[u32], counts: &[u16], text: &[u8], new: &
     ensures { λ r. ⌜ Planned (takeOutcome firstFreeOrEqual p (rooms (now (lengths .entry)) (now (counts .entry)) (now (text .entry))) (now (new .entry)))
         (takenBy p r) r (rooms (now (lengths .entry)) (now (counts .entry)) (now (text .entry))) (now (new .entry)) ⌝ }
 {
-    let looked = look(p, lengths, counts, text, new);
-    let judged = looked.judged;
-    let chosen = looked.chosen;
-    match judged {
-        Judged::Refused(why) => Plan::Refused(why),
-        Judged::Sound(used) => match chosen {
-            Chosen::Equal(place) => {
-                let at = place.0;
-                Plan::Count(at, counts[at] + 1)
-            }
-            Chosen::Free(place) => {
-                let at = place.0;
-                let old = lengths[at] as usize;
-                put_free(p, place, looked.start, old, used, text.len(), new.len())
-            }
-            Chosen::Added => {
+    let n = p.num_strings;
+    let choice = choose(n, p.codepage, lengths, counts, text, new);
+    match choice {
+        Choice::Refused(why) => Plan::Refused(why),
+        Choice::At(spot) => {
+            let at = spot.place;
+            if at >= n {
                 let entries = entry_room(lengths.len(), counts.len());
-                put_added(p, entries, used, text.len(), new.len())
+                return put_added(p, entries, spot.used, text.len(), new.len());
             }
-        },
+            let count = counts[at];
+            if count > 0 {
+                return Plan::Count(at, count + 1);
+            }
+            let old = lengths[at] as usize;
+            put_free(
+                p,
+                EntryPlace(at),
+                spot.start,
+                old,
+                spot.used,
+                text.len(),
+                new.len(),
+            )
+        }
     }
 }
 

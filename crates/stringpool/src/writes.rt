@@ -1,8 +1,8 @@
 // Writing a pool stream and a data stream into a lent output.
-use crate::judge::Judged;
-use crate::judge::judge;
 use crate::pool::StringPool;
 use little_endian::Written;
+use pool_entries::State;
+use pool_entries::judge;
 use pool_stream::write_stream;
 use text_room::copy_in;
 ghost use mathlib.Core.Path.{_≡_};
@@ -38,10 +38,10 @@ impl StringPool {
         ensures { λ a. ⌜ (writtenAs a, now (out .exit)) ≡ writeOutcome self (rooms (now (lengths .entry)) (now (counts .entry)) (now (text .entry)))
             (dataBytes self (rooms (now (lengths .entry)) (now (counts .entry)) (now (text .entry)))) (now (out .entry)) ⌝ }
     {
-        let j = judge(self, lengths, counts, text);
-        match j {
-            Judged::Refused(why) => Written::Refused(why),
-            Judged::Sound(used) => write_texts(text, used, out),
+        let state = judge(self.num_strings, self.codepage, lengths, counts, text);
+        match state {
+            State::Refused(why) => Written::Refused(why),
+            State::Sound(used) => write_texts(text, used, out),
         }
     }
 }

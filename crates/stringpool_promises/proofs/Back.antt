@@ -17,18 +17,18 @@ use Rattle.stringpool.specs.Pool.{Entry, Rooms, rooms, cut, entriesOf, entryRoo
 use Rattle.stringpool.specs.Load.{Found, one, ends, entryIn, withEntry, onFound, entriesIn, poolEntries, poolFrom, loadEntries, loadOutcome}
 use Rattle.stringpool.specs.Load as load
 use Rattle.stringpool.specs.Write.{shortOf, wide, entryBytes, markOf, poolBytes, dataBytes, writeAnswer, writeOutcome}
-use Rattle.stringpool.specs.inner.Sound.{smallB, allSmall}
+use Rattle.pool_entries.specs.inner.Sound.{smallB, allSmall}
 use Rattle.stringpool.specs.inner.Entries.{lengthsOf, countsOf}
 use Rattle.pool_stream.specs.inner.Write.{entriesBytes, streamBy}
 use Rattle.stringpool.specs.declared.pool.StringPool.{StringPool}
 use Rattle.stringpool.proofs.Entries.{both, lengths-cut, counts-cut, texts-cut}
-use Rattle.stringpool.proofs.Sound.{SoundFit, then-second, false-true}
+use Rattle.pool_entries.proofs.Sound.{then-second, false-true}
 use Rattle.pool_stream.proofs.Writing.{is-narrow, is-wide, length-narrow, length-wide, length-entry, write-done}
 use Rattle.pool_stream.proofs.Writing.{stream-same}
 use Rattle.stringpool_promises.specs.Promises.{SoundState, Counts16, ReadsBack, Writes}
 use Rattle.order.proofs.Laws.{streams-do}
 use Rattle.stringpool_promises.proofs.Lists.{cut-texts}
-use Rattle.stringpool_promises.proofs.Sounds.{sound-fits}
+use Rattle.stringpool_promises.proofs.Sounds.{SoundFit, sound-fits}
 
 -- ---- one entry
 

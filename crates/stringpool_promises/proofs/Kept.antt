@@ -1,6 +1,6 @@
 -- Entries that fit put back into the rooms of a sound pool leave a sound pool.
-use mathlib.Core.Path.{_≡_, refl, sym, ap, ap₂, subst, _∙_}
-use Prim.Native.Nat.{ℕ, zero, suc, _+_, _-_, _≤_, _<_, max}
+use mathlib.Core.Path.{_≡_, refl, sym, ap, ap₂, _∙_}
+use Prim.Native.Nat.{ℕ, zero, suc, _+_, _-_, _≤_, _<_}
 use native.Mathlib.Omega.{arith}
 use mathlib.Core.Bool.{Bool, true, false}
 use mathlib.Core.List.{List, [], _∷_, _++_}
@@ -9,20 +9,18 @@ use lib.Seq.{take-at}
 use lib.Dec.{leb, eqb}
 use borrow.Author.Tests.{leb-false, ne-eqb}
 use Rattle.common.specs.Choice.{if_then_else_}
-use Rattle.stringpool.specs.Pool.{Entry, entry, Rooms, texts, free, sound}
-use Rattle.common.specs.Lists.{total}
+use Rattle.common.specs.Lists.{_over_, total}
+use Rattle.stringpool.specs.Pool.{Entry, entry, Rooms, texts, putBack, free, sound}
 use Rattle.stringpool.specs.Take.{increased, takenAt}
 use Rattle.stringpool.specs.Drop.{lessened}
-use Rattle.stringpool.specs.inner.Sound.{smallB, allSmall}
-use Rattle.stringpool.specs.inner.Entries.{firstEntries, lengthsOf, countsOf, putBack}
+use Rattle.pool_entries.specs.inner.Sound.{smallB, allSmall}
+use Rattle.stringpool.specs.inner.Entries.{firstEntries, lengthsOf, countsOf}
 use Rattle.stringpool.specs.inner.Drop.{none}
 use Rattle.stringpool.specs.declared.pool.StringPool.{StringPool}
 use Rattle.stringpool.proofs.Entries.{both, lengths-cut, counts-cut}
-use Rattle.stringpool.proofs.Sound.{SoundFit, then-second}
-use Rattle.stringpool.proofs.House.{put-same}
-use Rattle.stringpool_promises.proofs.Sounds.{fit-sound}
+use Rattle.pool_entries.proofs.Sound.{then-second}
+use Rattle.stringpool_promises.proofs.Sounds.{SoundFit, fit-sound}
 use Rattle.stringpool_promises.proofs.Steps.{by-place}
-use Rattle.stringpool.specs.Pool as house
 
 -- ---- every free entry is small
 
@@ -89,32 +87,28 @@ total-lengths (e ∷ es) = ap (λ (i : ℕ). length (e .text) + i) (total-length
 module _ (q p : StringPool) (w : Rooms) (es : List Entry) (c : q .«num_strings» ≡ length es) (few : q .«num_strings» ≤ 16777215) (page : q .codepage ≤ 0x7fff_ffff)
     (used : total (take (p .«num_strings») (w .lengths)) ≤ length (w .text)) (size : length (w .text) ≤ 268435455)
     (room : length (texts es) ≤ length (w .text)) (small : Small es) where
-  text-length : length (putBack (p .«num_strings») w es .text) ≡ length (w .text)
+  text-length : length (putBack p w es .text) ≡ length (w .text)
   text-length =
       let u : ℕ = total (take (p .«num_strings») (w .lengths)) in
       let l : ℕ = length (texts es) in
-      let z : List ℕ = replicate (u - l) 0 in
-      let r : List ℕ = drop (max u l) (w .text) in
-      let lt : length (texts es ++ z ++ r) ≡ l + (u - l) + (length (w .text) - max u l) =
-      length-append (texts es ++ z) r ∙ ap₂ (λ (i j : ℕ). i + j) (length-append (texts es) z ∙ ap (λ (i : ℕ). l + i) (length-replicate (u - l) 0)) (length-drop (max u l) (w .text)) in
-      omega arith
+      let x : List ℕ = texts es ++ replicate (u - l) 0 in
+      let lx : length x ≡ l + (u - l) = length-append (texts es) (replicate (u - l) 0) ∙ ap (λ (i : ℕ). l + i) (length-replicate (u - l) 0) in
+      omega (arith, lx, length-append x (drop (length x) (w .text)), length-drop (length x) (w .text))
 
-  lengths-in : take (q .«num_strings») (lengthsOf es ++ drop (length es) (w .lengths)) ≡ lengthsOf es
-  lengths-in = take-at (lengthsOf es) (drop (length es) (w .lengths)) (q .«num_strings») (length-map es (λ (e : Entry). length (e .text)) ∙ sym c)
+  lengths-in : take (q .«num_strings») (lengthsOf es over w .lengths) ≡ lengthsOf es
+  lengths-in = take-at (lengthsOf es) (drop (length (lengthsOf es)) (w .lengths)) (q .«num_strings») (length-map es (λ (e : Entry). length (e .text)) ∙ sym c)
 
-  counts-in : take (q .«num_strings») (countsOf es ++ drop (length es) (w .counts)) ≡ countsOf es
-  counts-in = take-at (countsOf es) (drop (length es) (w .counts)) (q .«num_strings») (length-map es (λ (e : Entry). e .count) ∙ sym c)
+  counts-in : take (q .«num_strings») (countsOf es over w .counts) ≡ countsOf es
+  counts-in = take-at (countsOf es) (drop (length (countsOf es)) (w .counts)) (q .«num_strings») (length-map es (λ (e : Entry). e .count) ∙ sym c)
 
-  put-fits : SoundFit q (putBack (p .«num_strings») w es)
+  put-fits : SoundFit q (putBack p w es)
   put-fits =
-      let ls : List ℕ = lengthsOf es ++ drop (length es) (w .lengths) in
-      let cs : List ℕ = countsOf es ++ drop (length es) (w .counts) in
       let ml : length (lengthsOf es) ≡ length es = length-map es (λ (e : Entry). length (e .text)) in
       let mc : length (countsOf es) ≡ length es = length-map es (λ (e : Entry). e .count) in
       record {
         fit = record {
-          lengths = omega (arith, length-append (lengthsOf es) (drop (length es) (w .lengths)));
-          counts = omega (arith, length-append (countsOf es) (drop (length es) (w .counts)));
+          lengths = omega (arith, length-append (lengthsOf es) (drop (length (lengthsOf es)) (w .lengths)));
+          counts = omega (arith, length-append (countsOf es) (drop (length (countsOf es)) (w .counts)));
           text = omega (arith, text-length, ap total lengths-in ∙ total-lengths es);
         };
         few = few;
@@ -122,7 +116,5 @@ module _ (q p : StringPool) (w : Rooms) (es : List Entry) (c : q .«num_strings�
         small = ap₂ allSmall lengths-in counts-in ∙ small;
       }
 
-  -- the same, in the public definitions
-  pub put-state : (length (house.putBack p w es .text) ≤ 268435455) × (sound q (house.putBack p w es) ≡ true)
-  put-state = subst (λ (y : Rooms). (length (y .text) ≤ 268435455) × (sound q y ≡ true)) (put-same p w es)
-      (omega (arith, text-length), fit-sound q (putBack (p .«num_strings») w es) put-fits)
+  pub put-state : (length (putBack p w es .text) ≤ 268435455) × (sound q (putBack p w es) ≡ true)
+  put-state = (omega (arith, text-length), fit-sound q (putBack p w es) put-fits)

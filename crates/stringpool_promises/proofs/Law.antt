@@ -23,15 +23,12 @@ use Rattle.stringpool.specs.declared.pool.StringPool.{StringPool}
 use Rattle.stringpool.proofs.Entries.{length-entries, length-texts-at, length-at}
 use Rattle.common.proofs.Sums.{total-in}
 use Rattle.stringpool_promises.proofs.Lists.{entries-put}
-use Rattle.stringpool.proofs.Sound.{SoundFit}
 use Rattle.common.proofs.Outcomes.{Case, no, yes, test, not-true}
 use Rattle.order.specs.Order.{addFits, textFits, dropFits}
 use Rattle.order.proofs.Laws.{ordered, add-fits, text-fits, drop-fits}
-use Rattle.stringpool_promises.proofs.Sounds.{sound-fits, fit-sound}
-use Rattle.stringpool.proofs.House.{put-same}
+use Rattle.stringpool_promises.proofs.Sounds.{SoundFit, sound-fits, fit-sound}
 use Rattle.stringpool_promises.proofs.Steps.{At, take-sum, take-length, take-count, take-text, drop-sum, drop-count, drop-text, lessened-length}
 use Rattle.stringpool_promises.proofs.Kept.{small-taken, small-dropped, small-entries, put-state}
-use Rattle.stringpool.specs.inner.Entries as inner
 
 -- ---- an answer taken apart
 
@@ -138,9 +135,6 @@ takenTo s x = left (λ (y : ℤ × StringPool). y .1) s (outcome (s .rooms) x)
 abbrev droppedTo : State → Answer (StringPool × Rooms) → State
 droppedTo s x = left (λ (y : StringPool). y) s (outcome (s .rooms) x)
 
-entries-is : (p : StringPool) (m : ℕ) (w : Rooms) (es : List Entry) → m ≡ length es → inner.firstEntries m (putBack p w es) ≡ es
-entries-is p m w es e = ap (inner.firstEntries m) (sym (put-same p w es)) ∙ entries-put (p .«num_strings») m w es e
-
 abbrev LegalCall : Call → Type 0
 LegalCall (take-of choose t) = Legal choose
 LegalCall (drop-of r) = Unit {0}
@@ -157,7 +151,7 @@ module _ (s : State) (choose : Chooser) (t : List ℕ) where
 
   take-made : takeAnswer choose (s .pool) (s .rooms) t ≡ gives ((pos (k + 1), counting (s .pool) (length es')), putBack (s .pool) (s .rooms) es')
       → entries (after s (take-of choose t)) ≡ es'
-  take-made e = ap (λ (x : Answer ((ℤ × StringPool) × Rooms)). entries (takenTo s x)) e ∙ entries-is (s .pool) (length es') (s .rooms) es' refl
+  take-made e = ap (λ (x : Answer ((ℤ × StringPool) × Rooms)). entries (takenTo s x)) e ∙ entries-put (s .pool) (length es') (s .rooms) es' refl
 
   -- an accepted take was on a sound state, and leaves one
   take-was : Took (s .pool) (s .rooms) t k → SoundState s
@@ -184,7 +178,7 @@ module _ (s : State) (r : ℤ) where
   count-kept d = sym (length-set (entries s) (placeOf r) (lessened (getD (entries s) (placeOf r) none)) ∙ length-entries (s .pool .«num_strings») (s .rooms) (d .fit .fit))
 
   drop-made : DidDrop (s .pool) (s .rooms) r → dropAnswer (s .pool) (s .rooms) r ≡ gives (s .pool, putBack (s .pool) (s .rooms) es'') → entries (after s (drop-of r)) ≡ es''
-  drop-made d e = ap (λ (x : Answer (StringPool × Rooms)). entries (droppedTo s x)) e ∙ entries-is (s .pool) (s .pool .«num_strings») (s .rooms) es'' (count-kept d)
+  drop-made d e = ap (λ (x : Answer (StringPool × Rooms)). entries (droppedTo s x)) e ∙ entries-put (s .pool) (s .pool .«num_strings») (s .rooms) es'' (count-kept d)
 
   -- an accepted drop was on a sound state, and leaves one
   drop-was : DidDrop (s .pool) (s .rooms) r → SoundState s

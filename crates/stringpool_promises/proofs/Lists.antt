@@ -1,13 +1,15 @@
 -- Laws on lists of entries: what a put back list is, and sums and entries after one is replaced or added.
 use mathlib.Core.Path.{_≡_, refl, sym, ap, ap₂, _∙_}
-use Prim.Native.Nat.{ℕ, zero, suc, _+_, _-_, _<_, max}
+use Prim.Native.Nat.{ℕ, zero, suc, _+_, _-_, _<_}
 use native.Mathlib.Nat.{le-of-suc-le-suc, not-suc-le-zero}
 use native.Mathlib.Omega.{arith}
 use mathlib.Core.List.{List, [], _∷_, _++_, append-assoc}
 use lib.ListN.{length, take, drop, getD, set, replicate, length-map}
 use lib.Seq.{take-at, drop-at}
-use Rattle.common.specs.Lists.{total}
-use Rattle.stringpool.specs.inner.Entries.{Entry, Rooms, cut, firstEntries, texts, lengthsOf, countsOf, putBack}
+use Rattle.common.specs.Lists.{_over_, total}
+use Rattle.stringpool.specs.Pool.{Entry, Rooms, cut, texts, putBack}
+use Rattle.stringpool.specs.inner.Entries.{firstEntries, lengthsOf, countsOf}
+use Rattle.stringpool.specs.declared.pool.StringPool.{StringPool}
 use Rattle.stringpool.specs.inner.Drop.{none}
 use Rattle.stringpool_promises.specs.Promises.{countFor, sumFor}
 
@@ -22,15 +24,14 @@ cut-texts (e ∷ es) rest =
     ∙ ap (λ (r : List Entry). e ∷ r) (cut-texts es rest)
 
 -- the entries of rooms into which entries were put are those
-pub entries-put : (n m : ℕ) (w : Rooms) (es : List Entry) → m ≡ length es → firstEntries m (putBack n w es) ≡ es
-entries-put n m w es h =
-    let a : take m (lengthsOf es ++ drop (length es) (w .lengths)) ≡ lengthsOf es =
-    take-at (lengthsOf es) (drop (length es) (w .lengths)) m (length-map es (λ (e : Entry). length (e .text)) ∙ sym h) in
-    let b : take m (countsOf es ++ drop (length es) (w .counts)) ≡ countsOf es =
-    take-at (countsOf es) (drop (length es) (w .counts)) m (length-map es (λ (e : Entry). e .count) ∙ sym h) in
-    let u : ℕ = total (take n (w .lengths)) in
-    let z : List ℕ = replicate (u - length (texts es)) 0 in
-    let r : List ℕ = drop (max u (length (texts es))) (w .text) in
+pub entries-put : (p : StringPool) (m : ℕ) (w : Rooms) (es : List Entry) → m ≡ length es → firstEntries m (putBack p w es) ≡ es
+entries-put p m w es h =
+    let a : take m (lengthsOf es over w .lengths) ≡ lengthsOf es =
+    take-at (lengthsOf es) (drop (length (lengthsOf es)) (w .lengths)) m (length-map es (λ (e : Entry). length (e .text)) ∙ sym h) in
+    let b : take m (countsOf es over w .counts) ≡ countsOf es =
+    take-at (countsOf es) (drop (length (countsOf es)) (w .counts)) m (length-map es (λ (e : Entry). e .count) ∙ sym h) in
+    let z : List ℕ = replicate (total (take (p .«num_strings») (w .lengths)) - length (texts es)) 0 in
+    let r : List ℕ = drop (length (texts es ++ z)) (w .text) in
     ap₂ (λ (x y : List ℕ). cut x y (texts es ++ z ++ r)) a b
     ∙ ap (cut (lengthsOf es) (countsOf es)) (append-assoc (texts es) z r)
     ∙ cut-texts es (z ++ r)

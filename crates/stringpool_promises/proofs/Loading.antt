@@ -21,10 +21,9 @@ use Rattle.order.specs.Order.{streamsFit, loadFits}
 use Rattle.order.proofs.Laws.{streams-fit, load-fits}
 use Rattle.stringpool.specs.Pool.{Rooms, rooms, entryRoom}
 use Rattle.stringpool.specs.Load.{Found, one, cut, ends, entryIn, onFound, entriesIn, poolEntries, poolFrom, loadEntries, loadAnswer, loadOutcome}
-use Rattle.stringpool.specs.inner.Sound.{smallB, allSmall}
-use Rattle.stringpool.proofs.Sound.{SoundFit}
+use Rattle.pool_entries.specs.inner.Sound.{smallB, allSmall}
+use Rattle.stringpool_promises.proofs.Sounds.{SoundFit, fit-sound}
 use Rattle.stringpool_promises.specs.Promises.{LoadsSound}
-use Rattle.stringpool_promises.proofs.Sounds.{fit-sound}
 
 -- ---- one entry, by what stands there
 

@@ -13,8 +13,7 @@ use Rattle.stringpool.specs.Pool.{Rooms, sound, onSound}
 use Rattle.stringpool.specs.Pages.{pageAnswer}
 use Rattle.stringpool_promises.specs.Promises.{SoundState, MakesSound, PageSound}
 use Rattle.stringpool.specs.declared.pool.StringPool.{StringPool}
-use Rattle.stringpool.proofs.Sound.{SoundFit}
-use Rattle.stringpool_promises.proofs.Sounds.{fit-sound, sound-fits}
+use Rattle.stringpool_promises.proofs.Sounds.{SoundFit, fit-sound, sound-fits}
 use Rattle.stringpool_promises.proofs.Loading.{given, gave}
 
 abbrev paged : StringPool → ℕ → StringPool

@@ -20,7 +20,7 @@ use Rattle.stringpool.specs.Load.{Found, one, ends, onFound, entriesIn, poolFro
 use Rattle.stringpool.specs.Write.{shortOf, wide, entryBytes, markOf, poolBytes, dataBytes}
 use Rattle.pool_stream.specs.inner.Write.{entriesBytes, streamBy}
 use Rattle.stringpool.specs.declared.pool.StringPool.{StringPool}
-use Rattle.stringpool.proofs.Sound.{SoundFit}
+use Rattle.stringpool_promises.proofs.Sounds.{SoundFit}
 use Rattle.pool_stream.proofs.Writing.{is-narrow, is-wide, length-narrow, length-wide}
 use Rattle.stringpool.proofs.Streams.{data-same}
 use Rattle.pool_stream.proofs.Writing.{stream-same}

@@ -16,7 +16,7 @@ use Rattle.stringpool_promises.specs.Promises.{one, countFor, sumFor}
 use Rattle.stringpool.specs.inner.Drop.{none}
 use Rattle.stringpool_promises.proofs.Lists.{sum-set, sum-snoc}
 use Rattle.common.proofs.Lists.{getD-put, getD-snoc}
-use Rattle.stringpool.proofs.Take.{same-eq}
+use Rattle.pool_entries.proofs.Bytes.{same-eq}
 
 -- ---- a take at the place k, which is legal
 

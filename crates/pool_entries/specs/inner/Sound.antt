@@ -7,8 +7,9 @@ use lib.Dec.{ltb, leb, eqb}
 use Rattle.common.specs.Choice.{if_then_else_}
 use Rattle.common.specs.Lists.{total}
 use Rattle.pool_entries.specs.Entries.{Rooms}
-use Rattle.pool_entries.specs.declared.judging.Used.{Used}
-use Rattle.pool_entries.specs.declared.judging.Used.the-variants as used
+use Rattle.pool_entries.specs.declared.judging.State.{State}
+use Rattle.pool_entries.specs.declared.judging.State.the-variants as state
+use Rattle.common.specs.declared.refusal.Refusal.the-variants.{Unsound}
 
 -- an entry with count 0 has at most 65,535 bytes
 abbrev pub smallB : ℕ → ℕ → Bool
@@ -36,5 +37,5 @@ abbrev pub soundB : ℕ → ℕ → Rooms → Bool
 soundB n codepage w = if fitsB n codepage (w .lengths) (w .counts) then sumsB n (w .lengths) (w .counts) (length (w .text)) else false
 
 -- the bytes that the entries use
-abbrev pub usedOf : ℕ → List ℕ → List ℕ → ℕ → Used
-usedOf n ls cs room = if sumsB n ls cs room then used.Bytes (total (take n ls)) else used.Unsound
+abbrev pub usedOf : ℕ → List ℕ → List ℕ → ℕ → State
+usedOf n ls cs room = if sumsB n ls cs room then state.Sound (total (take n ls)) else state.Refused Unsound

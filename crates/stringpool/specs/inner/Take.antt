@@ -1,61 +1,20 @@
--- Which entry the code chooses, and the judge's answer to a take.
+-- What a take knows of the entry that was chosen, and what it answers.
 use Prim.Native.Nat.{ℕ, _+_, _≤_, _<_}
-use mathlib.Core.Bool.{Bool, false}
 use mathlib.Core.Path.{_≡_}
-use mathlib.Core.List.{List, [], _∷_}
+use mathlib.Core.List.{List}
 use lib.ListN.{length, take, getD}
-use lib.Dec.{ltb, eqb}
-use Rattle.common.specs.Lists.{total}
-use Rattle.common.specs.Choice.{_<?_, _≤?_, if_then_else_}
-use Rattle.stringpool.specs.Pool.{Entry, Rooms}
-use Rattle.stringpool.specs.inner.Entries.{Fit, firstEntries}
-use Rattle.stringpool.specs.Refs.{referenceTo}
-use Rattle.stringpool.specs.Take.{counting}
-use Rattle.stringpool.specs.inner.Sound.{judgeOf}
-use Rattle.stringpool.specs.declared.pool.StringPool.{StringPool}
 use lib.IntN.{ℤ}
+use Rattle.common.specs.Lists.{total}
+use Rattle.common.specs.Choice.{_<?_, if_then_else_}
 use Rattle.common.specs.Answers.{Answer, gives}
 use Rattle.common.specs.Refusals.{refusedBy}
-use Rattle.common.specs.declared.refusal.Refusal.the-variants.{OverSize}
-use Rattle.stringpool.specs.declared.judge.Judged.{Judged}
-use Rattle.stringpool.specs.declared.choice.Chosen.{Chosen}
-use Rattle.stringpool.specs.declared.choice.Chosen.the-variants.{Free, Equal, Added}
+use Rattle.stringpool.specs.Pool.{Rooms}
+use Rattle.stringpool.specs.Refs.{referenceTo}
+use Rattle.stringpool.specs.Take.{counting}
+use Rattle.stringpool.specs.inner.Entries.{Fit}
+use Rattle.stringpool.specs.declared.pool.StringPool.{StringPool}
 use Rattle.stringpool.specs.declared.entry.Plan.{Plan}
 use Rattle.stringpool.specs.declared.entry.Plan.the-variants as plan
-pub use Rattle.stringpool.specs.Take.{sameBytes}
-use Rattle.stringpool.specs.declared.judge.Judged.the-variants as judged
-
--- the same bytes, and a count below 65,535
-abbrev pub equalB : ℕ → List ℕ → List ℕ → Bool
-equalB count text t = (if ltb count 65535 then sameBytes text t else false)
-
-abbrev pub shift : ℕ → Chosen → Chosen
-shift i (Free k) = Free (record { 0 = i + k .0 })
-shift i (Equal k) = Equal (record { 0 = i + k .0 })
-shift i Added = Added
-
--- in entry order, the first entry that is free or equal; with none, an entry is added
-abbrev pub choose : List ℕ → List Entry → Chosen
-choose t [] = Added
-choose t (e ∷ es) =
-    (if eqb (e .count) 0 then Free (record { 0 = 0 }) else (if equalB (e .count) (e .text) t then Equal (record { 0 = 0 }) else shift 1 (choose t es)))
-
--- the choice by its place: past the last a new entry, else a free or an equal one
-abbrev pub chosenAt : ℕ → List ℕ → ℕ → Chosen
-chosenAt n cs k = (if n ≤? k then Added else (if eqb (getD cs k 0) 0 then Free (record { 0 = k }) else Equal (record { 0 = k })))
-
--- the place that is chosen
-abbrev pub chosenPlace : List Entry → Chosen → ℕ
-chosenPlace es (Free k) = k .0
-chosenPlace es (Equal k) = k .0
-chosenPlace es Added = length es
-
--- the sizes of the text and of the text room, then soundness
-abbrev pub judgeTake : StringPool → Rooms → List ℕ → Judged
-judgeTake p w t = (if ltb 268435455 (length t) then judged.Refused OverSize else judgeOf p w)
-
-abbrev pub chosenOf : StringPool → Rooms → List ℕ → Chosen
-chosenOf p w t = choose t (firstEntries (p .«num_strings») w)
 
 -- what is known of the rooms and the text of a take that was judged, by numbers
 pub record Known (p : StringPool) (w : Rooms) (t : List ℕ) (used room size : ℕ) : Type 0 where

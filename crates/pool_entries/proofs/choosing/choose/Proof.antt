@@ -49,17 +49,17 @@ used-after-requires c κs =
 
 returns-4 : tie.Need-returns-4
 returns-4 c =
-    let s = c .before .before .before .before .before .before .before .before .before .before .before .before in
-    judge-unsound (s .args .num-strings) (s .args .codepage) (W s) (Given s) (c .before .before .before .before .before .before .if2 .left) (sym (c .before .before .before .before .before .fits2 .ensures) ∙ not-false _ (c .before .before .before .before .if3 .left))
-    (sym (c .enum-told .given .1) ∙ c .before .before .used-after .ensures)
-    ∙ choose-on (s .args .num-strings) (s .args .codepage) (W s) (s .args .new .now) (c .before .before .before .before .before .before .before .if1 .left)
+    let s = c .before .before .before .before .before .before .before .before .before .before .before .before .before in
+    judge-unsound (s .args .num-strings) (s .args .codepage) (W s) (Given s) (c .before .before .before .before .before .before .before .if2 .left) (sym (c .before .before .before .before .before .before .fits2 .ensures) ∙ not-false _ (c .before .before .before .before .before .if3 .left)) _
+    (sym (c .before .u .given .1) ∙ c .before .before .before .used-after .ensures)
+    ∙ choose-on (s .args .num-strings) (s .args .codepage) (W s) (s .args .new .now) (c .before .before .before .before .before .before .before .before .if1 .left)
 
 returns-5 : tie.Need-returns-5
 returns-5 c =
     let s = c .before .before .before .before .before .before .before .before .before .before .before .before .before in
     let hw = c .before .before .before .before .before .before .before .if2 .left in
     let f = sym (c .before .before .before .before .before .before .fits2 .ensures) ∙ not-false _ (c .before .before .before .before .before .if3 .left) in
-    let e = sym (c .before .u .given .1) ∙ c .before .before .before .used-after .ensures in
+    let e = sym (c .before .u2 .given .1) ∙ c .before .before .before .used-after .ensures in
     spot-found (s .args .num-strings) (s .args .codepage) (W s) (s .args .new .now) _ _ _ (c .before .before .before .before .search .ensures)
     (judge-fit (s .args .num-strings) (s .args .codepage) (W s) (Given s) hw f _ e) (judge-used (s .args .num-strings) (s .args .codepage) (W s) (Given s) hw f _ e)
     ∙ judge-sound (s .args .num-strings) (s .args .codepage) (W s) (Given s) hw f _ e

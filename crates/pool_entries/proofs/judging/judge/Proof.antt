@@ -7,7 +7,8 @@ use borrow.Author.Tests.{not-true, not-false}
 use Rattle.common.specs.Lists.{total}
 use Rattle.common.specs.Answers.{Answer, gives}
 use Rattle.pool_entries.specs.Entries.{Rooms, rooms}
-use Rattle.pool_entries.proofs.Sound.{fits-few, judge-size, judge-out, judge-unsound, judge-used, judge-sound}
+use Rattle.pool_entries.specs.Calls.{judgedAs}
+use Rattle.pool_entries.proofs.Sound.{fits-few, judge-size, judge-out, judge-on}
 use Rattle.pool_entries.proofs.judging.judge.Statement.{statement}
 use Rattle.pool_entries.proofs.judging.judge.Tie as tie
 
@@ -35,28 +36,10 @@ used-after-requires c κs =
 
 returns-3 : tie.Need-returns-3
 returns-3 c =
-    let s = c .before .before .before .before .before .before .before .before .before in
-    judge-unsound (s .args .num-strings) (s .args .codepage) (W s) (Given s) (c .before .before .before .before .before .if1 .left)
-    (sym (c .before .before .before .before .fits2 .ensures) ∙ not-false _ (c .before .before .before .if2 .left)) (sym (c .enum-told .given .1) ∙ c .before .before .used-after .ensures)
-
-returns-4 : tie.Need-returns-4
-returns-4 c =
-    let s = c .before .before .before .before .before .before .before .before .before .before in
-    let hw = c .before .before .before .before .before .before .if1 .left in
-    let f = sym (c .before .before .before .before .before .fits2 .ensures) ∙ not-false _ (c .before .before .before .before .if2 .left) in
-    let e = sym (c .before .used .given .1) ∙ c .before .before .before .used-after .ensures in
-    ap gives (judge-used (s .args .num-strings) (s .args .codepage) (W s) (Given s) hw f _ e)
-    ∙ judge-sound (s .args .num-strings) (s .args .codepage) (W s) (Given s) hw f _ e
+    let s = c .before .before .before .before .before .before .before in
+    ap judgedAs (c .used-after .ensures)
+    ∙ judge-on (s .args .num-strings) (s .args .codepage) (W s) (c .before .before .before .if1 .left) (sym (c .before .before .fits2 .ensures) ∙ not-false _ (c .before .if2 .left))
 
 pub judge-spec : {M : Type 1} → statement M
 judge-spec =
-    tie.close
-    (tie.spec
-    returns
-    (λ c κs. search needs)
-    returns-2
-    used-after-requires
-    (λ c. search needs)
-    (λ c. search needs)
-    returns-3
-    returns-4)
+    tie.close (tie.spec returns (λ c κs. search needs) returns-2 used-after-requires returns-3)

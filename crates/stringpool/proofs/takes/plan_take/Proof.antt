@@ -1,90 +1,87 @@
-use mathlib.Core.Path.{sym, ap, _∙_}
+use mathlib.Core.Path.{_≡_, refl, sym, ap, subst, _∙_}
+use Prim.Native.Nat.{ℕ}
 use native.Mathlib.Omega.{arith}
+use mathlib.Core.List.{List}
 use Rattle.common.proofs.Sums.{total-in}
-use Rattle.stringpool.specs.Pool.{rooms}
-use Rattle.stringpool.specs.inner.Entries.{firstEntries}
-use Rattle.stringpool.specs.inner.Take.{chosenPlace}
-use Rattle.stringpool.proofs.Taking.{take-refused, equal-done, look-known, look-equal, look-free, look-taken, look-added}
+use Rattle.pool_entries.specs.Calls.{chosenAs}
+use Rattle.pool_entries.specs.declared.choosing.Spot.{Spot}
+use Rattle.stringpool.specs.Pool.{Rooms, rooms}
+use Rattle.stringpool.specs.declared.pool.StringPool.{StringPool}
+use Rattle.stringpool.proofs.Taking.{At, equal-done, Spotted, take-refused, spotted, taken-at}
 use borrow.Author.Needs.{needs}
 use Rattle.stringpool.proofs.takes.plan_take.Statement.{statement}
 use Rattle.stringpool.proofs.takes.plan_take.Tie as tie
 
-mul-t19 : tie.Need-mul-t19
-mul-t19 c =
-    let s = c .before .before .before .before .before .before .before .before .before .before .before in
-    let w = rooms (s .args .lengths .now) (s .args .counts .now) (s .args .text .now) in
-    omega (arith, look-equal (s .args .p) w (s .args .new .now) _ _ _ _ (c .before .before .before .before .before .before .look .ensures) (c .before .before .before .before .judged2 .given .1) _ (c .before .chosen .given .1) .0, look-known (s .args .p) w (s .args .new .now) _ _ _ _ (c .before .before .before .before .before .before .look .ensures) (c .before .before .before .before .judged2 .given .1) .few)
+abbrev W : tie.Start → Rooms
+W s = rooms (s .args .lengths .now) (s .args .counts .now) (s .args .text .now)
 
-shared-slice-read-t21 : tie.Need-shared-slice-read-t21
-shared-slice-read-t21 c =
-    let s = c .before .before .before .before .before .before .before .before .before .before .before .before in
-    let w = rooms (s .args .lengths .now) (s .args .counts .now) (s .args .text .now) in
-    omega (arith, look-equal (s .args .p) w (s .args .new .now) _ _ _ _ (c .before .before .before .before .before .before .before .look .ensures) (c .before .before .before .before .before .judged2 .given .1) _ (c .before .before .chosen .given .1) .0, look-known (s .args .p) w (s .args .new .now) _ _ _ _ (c .before .before .before .before .before .before .before .look .ensures) (c .before .before .before .before .before .judged2 .given .1) .fit .counts)
+abbrev t : tie.Start → List ℕ
+t s = s .args .new .now
 
-add-t22 : tie.Need-add-t22
-add-t22 c =
-    let s = c .before .before .before .before .before .before .before .before .before .before .before .before in
-    let w = rooms (s .args .lengths .now) (s .args .counts .now) (s .args .text .now) in
-    omega (arith, look-equal (s .args .p) w (s .args .new .now) _ _ _ _ (c .before .before .before .before .before .before .before .look .ensures) (c .before .before .before .before .before .judged2 .given .1) _ (c .before .before .chosen .given .1) .2)
+-- where an entry was chosen
+abbrev S : tie.After-known-told2 → tie.Start
+S c = c .before .before .before .before .before .before .before .before
 
-mul-old : tie.Need-mul-old
-mul-old c =
-    let s = c .before .before .before .before .before .before .before .before .before .before .before in
-    let w = rooms (s .args .lengths .now) (s .args .counts .now) (s .args .text .now) in
-    omega (arith, look-free (s .args .p) w (s .args .new .now) _ _ _ _ (c .before .before .before .before .before .before .look .ensures) (c .before .before .before .before .judged2 .given .1) _ (c .before .chosen2 .given .1) .within, look-known (s .args .p) w (s .args .new .now) _ _ _ _ (c .before .before .before .before .before .before .look .ensures) (c .before .before .before .before .judged2 .given .1) .few)
+abbrev p : tie.After-known-told2 → StringPool
+p c = S c .args .p
 
-shared-slice-read-old : tie.Need-shared-slice-read-old
-shared-slice-read-old c =
-    let s = c .before .before .before .before .before .before .before .before .before .before .before .before in
-    let w = rooms (s .args .lengths .now) (s .args .counts .now) (s .args .text .now) in
-    omega (arith, look-free (s .args .p) w (s .args .new .now) _ _ _ _ (c .before .before .before .before .before .before .before .look .ensures) (c .before .before .before .before .before .judged2 .given .1) _ (c .before .before .chosen2 .given .1) .within, look-known (s .args .p) w (s .args .new .now) _ _ _ _ (c .before .before .before .before .before .before .before .look .ensures) (c .before .before .before .before .before .judged2 .given .1) .fit .lengths)
+abbrev spot : tie.After-known-told2 → Spot
+spot c = c .before .choice2 .given .0 .0
 
-cast-old : tie.Need-cast-old
-cast-old c = omega (arith, c .shared-slice-known6 .given (c .before .before .chosen2 .given .0 .0 .0))
-
-put-free-requires : tie.Need-put-free-requires
-put-free-requires c κs =
-    let s = c .before .before .before .before .before .before .before .before .before .before .before .before in
-    let w = rooms (s .args .lengths .now) (s .args .counts .now) (s .args .text .now) in
-    let h = look-free (s .args .p) w (s .args .new .now) _ _ _ _ (c .before .before .before .before .before .before .before .look .ensures) (c .before .before .before .before .before .judged2 .given .1) _ (c .before .before .chosen2 .given .1) in
-    let q = look-known (s .args .p) w (s .args .new .now) _ _ _ _ (c .before .before .before .before .before .before .before .look .ensures) (c .before .before .before .before .before .judged2 .given .1) in
-    (omega (arith, h .within, q .few), omega (arith, q .sum, total-in (s .args .lengths .now) (c .before .before .chosen2 .given .0 .0 .0) (s .args .p .«num_strings») (h .within) (q .fit .lengths)), omega (arith, q .sum, q .fit .text, q .large), q .small)
+found : (c : tie.After-known-told2) → Spotted (p c) (W (S c)) (t (S c)) (spot c .place) (spot c .start) (spot c .used)
+found c = spotted (p c) (W (S c)) (t (S c)) (sym (ap chosenAs (c .before .choice2 .given .1)) ∙ c .before .before .before .choose .ensures)
 
 put-added-requires : tie.Need-put-added-requires
 put-added-requires c κs =
-    let s = c .before .before .before .before .before .before .before .before .before .before .before in
-    let w = rooms (s .args .lengths .now) (s .args .counts .now) (s .args .text .now) in
-    let q = look-known (s .args .p) w (s .args .new .now) _ _ _ _ (c .before .before .before .before .before .before .look .ensures) (c .before .before .before .before .judged2 .given .1) in
+    let q = found (c .before .before) .known in
     (omega (arith, q .sum, q .fit .text, q .large), q .small)
 
 returns : tie.Need-returns
 returns c =
-    let s = c .before .before .before .before .before .before .before .before in
-    take-refused (s .args .p) (s .args .new .now) (rooms (s .args .lengths .now) (s .args .counts .now) (s .args .text .now)) _ (sym (c .before .before .before .look .ensures .answer) ∙ c .before .judged .given .1)
+    let d = c .before .before .before in
+    let q = found d in
+    let e : p d .«num_strings» ≡ spot d .place = omega (arith, c .before .before .if1 .taken, q .within) in
+    taken-at q (subst (λ (k : ℕ). At (p d) (W (S d)) (t (S d)) k (c .put-added .result)) e (c .put-added .ensures (W (S d)) (t (S d)) (q .known) (c .before .entry-room .ensures)))
+
+mul-count : tie.Need-mul-count
+mul-count c = let q = found (c .before) in omega (arith, q .within, q .known .few)
+
+shared-slice-read-count : tie.Need-shared-slice-read-count
+shared-slice-read-count c = omega (arith, c .before .if1 .left, found (c .before .before) .known .fit .counts)
+
+add-t21 : tie.Need-add-t21
+add-t21 c = omega (arith, found (c .before .before .before) .below (c .before .before .if1 .left) (c .if2 .taken))
 
 returns-2 : tie.Need-returns-2
 returns-2 c =
-    let s = c .before .before .before .before .before .before .before .before .before .before .before .before in
-    let w = rooms (s .args .lengths .now) (s .args .counts .now) (s .args .text .now) in
-    let h = look-equal (s .args .p) w (s .args .new .now) _ _ _ _ (c .before .before .before .before .before .before .before .look .ensures) (c .before .before .before .before .before .judged2 .given .1) _ (c .before .before .chosen .given .1) in
-    look-taken (s .args .p) w (s .args .new .now) _ _ _ _ (c .before .before .before .before .before .before .before .look .ensures) (c .before .before .before .before .before .judged2 .given .1) _ (sym (ap (chosenPlace (firstEntries (s .args .p .«num_strings») w)) (c .before .before .chosen .given .1))) _
-    (equal-done (s .args .p) w (look-known (s .args .p) w (s .args .new .now) _ _ _ _ (c .before .before .before .before .before .before .before .look .ensures) (c .before .before .before .before .before .judged2 .given .1) .fit) (s .args .new .now) _ (h .0) (look-known (s .args .p) w (s .args .new .now) _ _ _ _ (c .before .before .before .before .before .before .before .look .ensures) (c .before .before .before .before .before .judged2 .given .1) .few) (h .1) _ (omega arith))
+    let d = c .before .before .before in
+    let q = found d in
+    taken-at q (equal-done (p d) (W (S d)) (q .known .fit) (t (S d)) (spot d .place) (c .before .before .if1 .left) (q .known .few) (c .if2 .taken) _ (omega arith))
+
+mul-old : tie.Need-mul-old
+mul-old c = omega (arith, c .before .before .if1 .left, found (c .before .before .before) .known .few)
+
+shared-slice-read-old : tie.Need-shared-slice-read-old
+shared-slice-read-old c = omega (arith, c .before .before .before .if1 .left, found (c .before .before .before .before) .known .fit .lengths)
+
+cast-old : tie.Need-cast-old
+cast-old c = omega (arith, c .shared-slice-known6 .given (spot (c .before .before .before .before) .place))
+
+put-free-requires : tie.Need-put-free-requires
+put-free-requires c κs =
+    let d = c .before .before .before .before in
+    let q = found d .known in
+    let h = c .before .before .before .if1 .left in
+    (omega (arith, h, q .few), omega (arith, q .sum, total-in (S d .args .lengths .now) (spot d .place) (p d .«num_strings») h (q .fit .lengths)), omega (arith, q .sum, q .fit .text, q .large), q .small)
 
 returns-3 : tie.Need-returns-3
-returns-3 c =
-    let s = c .before .before .before .before .before .before .before .before .before .before .before .before .before in
-    let w = rooms (s .args .lengths .now) (s .args .counts .now) (s .args .text .now) in
-    look-taken (s .args .p) w (s .args .new .now) _ _ _ _ (c .before .before .before .before .before .before .before .before .look .ensures) (c .before .before .before .before .before .before .judged2 .given .1) _ (sym (ap (chosenPlace (firstEntries (s .args .p .«num_strings») w)) (c .before .before .before .chosen2 .given .1))) _
-    (c .put-free .ensures w (s .args .new .now) (look-known (s .args .p) w (s .args .new .now) _ _ _ _ (c .before .before .before .before .before .before .before .before .look .ensures) (c .before .before .before .before .before .before .judged2 .given .1)) (look-free (s .args .p) w (s .args .new .now) _ _ _ _ (c .before .before .before .before .before .before .before .before .look .ensures) (c .before .before .before .before .before .before .judged2 .given .1) _ (c .before .before .before .chosen2 .given .1)))
+returns-3 c = let s = c .before .before .before .before .before .before .before .before in take-refused (s .args .p) (W s) (t s) _ (sym (ap chosenAs (c .before .choice .given .1)) ∙ c .before .before .before .choose .ensures)
 
 returns-4 : tie.Need-returns-4
 returns-4 c =
-    let s = c .before .before .before .before .before .before .before .before .before .before .before .before in
-    let w = rooms (s .args .lengths .now) (s .args .counts .now) (s .args .text .now) in
-    let l = c .before .before .before .before .before .before .before .look .ensures in
-    let j = c .before .before .before .before .before .judged2 .given .1 in
-    look-taken (s .args .p) w (s .args .new .now) _ _ _ _ l j _ (look-added (s .args .p) w (s .args .new .now) _ _ _ _ l j (c .before .before .enum-told .given .1)) _
-    (c .put-added .ensures w (s .args .new .now) (look-known (s .args .p) w (s .args .new .now) _ _ _ _ l j) (c .before .entry-room .ensures))
+    let d = c .before .before .before .before .before in
+    let q = found d in
+    taken-at q (c .put-free .ensures (W (S d)) (t (S d)) (q .known) (record { within = c .before .before .before .before .if1 .left; free = omega (arith, c .before .before .if2 .left); begins = q .begins; long = refl }))
 
 pub plan-take-spec : {M : Type 1} → statement M
 plan-take-spec =
@@ -93,19 +90,16 @@ plan-take-spec =
     (λ c κs. search needs)
     (λ c. search needs)
     (λ c. search needs)
-    (λ c. search needs)
-    mul-t19
-    shared-slice-read-t21
-    add-t22
-    (λ c. search needs)
+    (λ c κs. search needs)
+    put-added-requires
+    returns
+    mul-count
+    shared-slice-read-count
+    add-t21
+    returns-2
     mul-old
     shared-slice-read-old
     cast-old
     put-free-requires
-    (λ c. search needs)
-    (λ c κs. search needs)
-    put-added-requires
-    returns
-    returns-2
     returns-3
     returns-4)

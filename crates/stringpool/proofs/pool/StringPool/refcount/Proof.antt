@@ -1,38 +1,73 @@
-use mathlib.Core.Path.{_≡_, sym, _∙_}
-use lib.ListN.{getD}
-use Rattle.stringpool.specs.Pool.{rooms}
+use mathlib.Core.Path.{_≡_, sym, ap, _∙_}
+use Prim.Native.Nat.{ℕ}
+use lib.ListN.{take, getD}
 use lib.IntN.{ℤ}
 use mir.Syntax.{w32}
 use mir.Val.{toZ, ofZ}
 use mir.ValLaws.{toZ-ofZ}
-use Rattle.common.specs.Answers.{gives}
+use Rattle.common.specs.Lists.{total}
+use Rattle.common.specs.Answers.{Answer, gives}
+use Rattle.pool_entries.specs.Calls.{judgedAs}
+use Rattle.pool_entries.proofs.Calls.{call-refused, call-passed}
+use Rattle.stringpool.specs.Pool.{Rooms, rooms, entriesOf}
 use Rattle.stringpool.specs.Refs.{onReference}
-use Rattle.stringpool.specs.inner.Entries.{firstEntries}
 use Rattle.stringpool.specs.inner.Drop.{none}
-use Rattle.stringpool.proofs.Sound.{judging}
-use Rattle.stringpool.proofs.House.{answer-refused, count-passed}
+use Rattle.stringpool.specs.inner.Refs.{placedAs}
+use Rattle.stringpool.proofs.Entries.{count-same}
+use Rattle.stringpool.proofs.Showing.{on-number}
 use borrow.Author.Needs.{needs}
 use Rattle.stringpool.proofs.pool.StringPool.refcount.Statement.{statement}
 use Rattle.stringpool.proofs.pool.StringPool.refcount.Tie as tie
 
-count-sound-requires : tie.Need-count-sound-requires
-count-sound-requires c κs =
-    let s = c .before .before .before .before .before .before in
-    judging (s .args .self) (rooms (s .args .lengths .now) (s .args .counts .now) (s .args .text .now)) (sym (c .before .before .judge .ensures) ∙ c .enum-told .given .1) .all .fit .counts
+abbrev W : tie.Start → Rooms
+W s = rooms (s .args .lengths .now) (s .args .counts .now) (s .args .text .now)
+
+abbrev n : tie.Start → ℕ
+n s = s .args .self .«num_strings»
+
+abbrev Used : tie.Start → ℕ
+Used s = total (take (n s) (s .args .lengths .now))
+
+abbrev Count : tie.Start → ℕ → Answer ℕ
+Count s k = gives (getD (entriesOf (s .args .self) (W s)) k none .count)
 
 returns : tie.Need-returns
 returns c =
     let s = c .before .before .before .before .before .before .before in
-    answer-refused (s .args .self) (rooms (s .args .lengths .now) (s .args .counts .now) (s .args .text .now)) _ (onReference (s .args .number) (λ k. gives (getD (firstEntries (s .args .self .«num_strings») (rooms (s .args .lengths .now) (s .args .counts .now) (s .args .text .now))) k none .count))) (sym (c .before .before .before .judge .ensures) ∙ c .before .j .given .1)
+    call-refused (n s) (s .args .self .codepage) (W s) (Used s) (onReference (s .args .number) (Count s)) (sym (ap judgedAs (c .before .state .given .1)) ∙ c .before .before .before .judge .ensures)
+
+count-of-requires : tie.Need-count-of-requires
+count-of-requires c κs =
+    let s = c .before .before .before .before .before .before .before .before .before .before in
+    call-passed (n s) (s .args .self .codepage) (W s) (Used s) (sym (ap judgedAs (c .before .before .before .before .enum-told .given .1)) ∙ c .before .before .before .before .before .before .judge .ensures) .fit .counts
 
 returns-2 : tie.Need-returns-2
 returns-2 c =
-    let s = c .before .before .before .before .before .before .before in
+    let s = c .before .before .before .before .before .before .before .before .before .before in
     let z : ℤ = s .args .number in
     let back : toZ w32 (ofZ w32 z) ≡ z = toZ-ofZ w32 z (search needs) in
-    c .count-sound .ensures ∙ count-passed (s .args .self) (rooms (s .args .lengths .now) (s .args .counts .now) (s .args .text .now)) z _ back (sym (c .before .before .before .judge .ensures) ∙ c .before .enum-told .given .1)
+    on-number (s .args .self) (W s) z _ back (sym (ap judgedAs (c .before .before .before .before .enum-told .given .1)) ∙ c .before .before .before .before .before .before .judge .ensures) (Count s) (sym (ap placedAs (c .before .placed .given .1)) ∙ c .before .before .before .place .ensures)
+
+returns-3 : tie.Need-returns-3
+returns-3 c =
+    let s = c .before .before .before .before .before .before .before .before .before .before .before in
+    let z : ℤ = s .args .number in
+    let back : toZ w32 (ofZ w32 z) ≡ z = toZ-ofZ w32 z (search needs) in
+    let e = sym (ap judgedAs (c .before .before .before .before .before .enum-told .given .1)) ∙ c .before .before .before .before .before .before .before .judge .ensures in
+    ap gives (c .count-of .ensures ∙ count-same (n s) (W s) (call-passed (n s) (s .args .self .codepage) (W s) (Used s) e .fit) _)
+    ∙ on-number (s .args .self) (W s) z _ back e (Count s) (sym (ap placedAs (c .before .before .placed2 .given .1)) ∙ c .before .before .before .before .place .ensures)
 
 pub refcount-spec : {M : Type 1} → statement M
 refcount-spec =
     tie.close
-    (tie.spec (λ c κs. search needs) (λ c. search needs) (λ c. search needs) count-sound-requires returns returns-2)
+    (tie.spec
+    (λ c κs. search needs)
+    (λ c. search needs)
+    returns
+    (λ c. search needs)
+    (λ c κs. search needs)
+    (λ c. search needs)
+    (λ c. search needs)
+    count-of-requires
+    returns-2
+    returns-3)

@@ -1,7 +1,10 @@
-use mathlib.Core.Path.{sym, _∙_}
+use mathlib.Core.Path.{sym, ap, _∙_}
+use lib.ListN.{take}
+use Rattle.common.specs.Lists.{total}
+use Rattle.pool_entries.specs.Calls.{judgedAs}
+use Rattle.pool_entries.proofs.Calls.{call-refused, call-on}
 use Rattle.stringpool.specs.Pool.{rooms}
 use Rattle.stringpool.specs.Pages.{pageAnswer}
-use Rattle.stringpool.proofs.House.{answer-refused, answer-passed}
 use borrow.Author.Needs.{needs}
 use Rattle.stringpool.proofs.pool.StringPool.set_codepage.Statement.{statement}
 use Rattle.stringpool.proofs.pool.StringPool.set_codepage.Tie as tie
@@ -9,12 +12,13 @@ use Rattle.stringpool.proofs.pool.StringPool.set_codepage.Tie as tie
 returns : tie.Need-returns
 returns c =
     let s = c .before .before .before .before .before .before .before in
-    answer-refused (s .args .self) (rooms (s .args .lengths .now) (s .args .counts .now) (s .args .text .now)) _ (pageAnswer (s .args .self) (s .args .codepage)) (sym (c .before .before .before .judge .ensures) ∙ c .before .j .given .1)
+    call-refused (s .args .self .«num_strings») (s .args .self .codepage) (rooms (s .args .lengths .now) (s .args .counts .now) (s .args .text .now)) (total (take (s .args .self .«num_strings») (s .args .lengths .now))) (pageAnswer (s .args .self) (s .args .codepage)) (sym (ap judgedAs (c .before .state .given .1)) ∙ c .before .before .before .judge .ensures)
 
 returns-2 : tie.Need-returns-2
 returns-2 c =
     let s = c .before .before .before .before .before .before .before in
-    c .with-page .ensures ∙ answer-passed (s .args .self) (rooms (s .args .lengths .now) (s .args .counts .now) (s .args .text .now)) (pageAnswer (s .args .self) (s .args .codepage)) (sym (c .before .before .before .judge .ensures) ∙ c .before .enum-told .given .1)
+    c .with-page .ensures
+    ∙ call-on (s .args .self .«num_strings») (s .args .self .codepage) (rooms (s .args .lengths .now) (s .args .counts .now) (s .args .text .now)) (total (take (s .args .self .«num_strings») (s .args .lengths .now))) (sym (ap judgedAs (c .before .enum-told .given .1)) ∙ c .before .before .before .judge .ensures) (pageAnswer (s .args .self) (s .args .codepage))
 
 pub set-codepage-spec : {M : Type 1} → statement M
 set-codepage-spec =

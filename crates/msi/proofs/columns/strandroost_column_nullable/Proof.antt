@@ -1,12 +1,12 @@
-use mathlib.Core.Path.{ap, _∙_}
-use Rattle.c_types.specs.Columns.{builderOut}
 use Rattle.column.specs.Columns.{withNullable}
+use Rattle.c_types.specs.Columns.{builderOut}
+use Rattle.msi.proofs.Handed.{says}
 use borrow.Author.Needs.{needs}
 use Rattle.msi.proofs.columns.strandroost_column_nullable.Statement.{statement}
 use Rattle.msi.proofs.columns.strandroost_column_nullable.Tie as tie
 
 returns : tie.Need-returns
-returns c = c .builder-out .ensures ∙ ap builderOut (c .before .nullable .ensures ∙ ap withNullable (c .before .before .builder-in .ensures))
+returns c = says builderOut withNullable (c .builder-out .ensures) (c .before .before .builder-in .ensures) (c .before .nullable .ensures)
 
 pub strandroost-column-nullable-spec : {M : Type 1} → statement M
 strandroost-column-nullable-spec =

@@ -1,26 +1,17 @@
-use mathlib.Core.Path.{_≡_, ap, ap₂, _∙_}
-use lib.IntN.{ℤ}
-use mir.Syntax.{w32}
-use mir.Val.{SFits, toZ, ofZ}
-use mir.ValLaws.{toZ-ofZ}
-use Rattle.c_types.specs.Columns.{builderOut}
-use Rattle.column.specs.Columns.{withRange}
+use mathlib.Core.Path.{ap₂, _∙_}
 use Rattle.column.specs.declared.column.ColumnBuilder.{ColumnBuilder}
+use Rattle.column.specs.Columns.{withRange}
+use Rattle.c_types.specs.Columns.{builderOut}
+use Rattle.msi.proofs.Handed.{back, says}
 use borrow.Author.Needs.{needs}
 use Rattle.msi.proofs.columns.strandroost_column_range.Statement.{statement}
 use Rattle.msi.proofs.columns.strandroost_column_range.Tie as tie
 
 returns : tie.Need-returns
 returns c =
-    let s = c .before .before .before .args in
-    let min : ℤ = s .min in
-    let min-fits : SFits w32 min = search needs in
-    let min-back : toZ w32 (ofZ w32 min) ≡ min = toZ-ofZ w32 min min-fits in
-    let max : ℤ = s .max in
-    let max-fits : SFits w32 max = search needs in
-    let max-back : toZ w32 (ofZ w32 max) ≡ max = toZ-ofZ w32 max max-fits in
-    let b = c .before .before .builder-in .result in
-    c .builder-out .ensures ∙ ap builderOut (c .before .range .ensures ∙ ap₂ (λ (i k : ℤ). withRange b i k) min-back max-back ∙ ap (λ (x : ColumnBuilder). withRange x min max) (c .before .before .builder-in .ensures))
+    let s = c .before .before .before in
+    says builderOut (λ (b : ColumnBuilder). withRange b (s .args .min) (s .args .max)) (c .builder-out .ensures) (c .before .before .builder-in .ensures)
+    (c .before .range .ensures ∙ ap₂ (withRange (c .before .before .builder-in .result)) (back (s .args .min) (s .fits .min)) (back (s .args .max) (s .fits .max)))
 
 pub strandroost-column-range-spec : {M : Type 1} → statement M
 strandroost-column-range-spec =

@@ -5,7 +5,9 @@ use Rattle.msi.proofs.pools.strandroost_load.Statement.{statement}
 use Rattle.msi.proofs.pools.strandroost_load.Tie as tie
 
 returns : tie.Need-returns
-returns c = hands poolIn (c .from-pooled .ensures) (c .before .before .before .before .before .before .before .load .ensures)
+returns c =
+    let called = c .before .before .before .before .before .before .before in
+    hands poolIn (c .from-pooled .ensures) (called .load .ensures)
 
 pub strandroost-load-spec : {M : Type 1} → statement M
 strandroost-load-spec =

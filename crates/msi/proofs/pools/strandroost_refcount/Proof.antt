@@ -1,24 +1,19 @@
-use Rattle.c_types.specs.Pools.{stateIn}
-use Rattle.stringpool.specs.Pool.{rooms}
-use denote.Ref.{now}
-use Rattle.stringpool.specs.Show.{refcountAnswer}
-use mir.ValLaws.{toZ-ofZ}
-use mir.Val.{SFits, toZ, ofZ}
-use mir.Syntax.{w32}
 use lib.IntN.{ℤ}
-use mathlib.Core.Path.{_≡_, ap, _∙_}
+use denote.Ref.{now}
+use Rattle.stringpool.specs.Pool.{rooms}
+use Rattle.stringpool.specs.declared.pool.StringPool.{StringPool}
+use Rattle.stringpool.specs.Show.{refcountAnswer}
 use Rattle.c_types.specs.Answers.{countIn}
+use Rattle.msi.proofs.Handed.{back, says-both}
 use borrow.Author.Needs.{needs}
 use Rattle.msi.proofs.pools.strandroost_refcount.Statement.{statement}
 use Rattle.msi.proofs.pools.strandroost_refcount.Tie as tie
 
 returns : tie.Need-returns
 returns c =
-    let s = c .before .before .before .before .before .before .args in
-    let z : ℤ = s .number in
-    let fits : SFits w32 z = search needs in
-    let back : toZ w32 (ofZ w32 z) ≡ z = toZ-ofZ w32 z fits in
-    c .from-counted .ensures ∙ ap countIn (rw (c .before .before .state .ensures) at (c .before .refcount .ensures) ∙ ap (λ (k : ℤ). refcountAnswer (stateIn (s .pool)) (rooms (now (s .lengths)) (now (s .counts)) (now (s .text))) k) back)
+    let s = c .before .before .before .before .before .before in
+    let w = rooms (now (s .args .lengths)) (now (s .args .counts)) (now (s .args .text)) in
+    says-both countIn (λ (p : StringPool) (k : ℤ). refcountAnswer p w k) (c .from-counted .ensures) (c .before .before .state .ensures) (back (s .args .number) (s .fits .number)) (c .before .refcount .ensures)
 
 pub strandroost-refcount-spec : {M : Type 1} → statement M
 strandroost-refcount-spec =

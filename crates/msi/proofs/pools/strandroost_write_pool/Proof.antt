@@ -1,10 +1,9 @@
+use denote.Ref.{now}
+use Rattle.stringpool.specs.Pool.{rooms}
 use Rattle.stringpool.specs.declared.pool.StringPool.{StringPool}
 use Rattle.stringpool.specs.Write.{writeOutcome, poolBytes}
-use Rattle.stringpool.specs.Pool.{rooms}
-use denote.Ref.{now}
-use mathlib.Core.Path.{ap, _∙_}
 use Rattle.c_types.specs.Answers.{countIn}
-use Rattle.msi.proofs.Handed.{hands}
+use Rattle.msi.proofs.Handed.{hands-on}
 use borrow.Author.Needs.{needs}
 use Rattle.msi.proofs.pools.strandroost_write_pool.Statement.{statement}
 use Rattle.msi.proofs.pools.strandroost_write_pool.Tie as tie
@@ -13,7 +12,7 @@ returns : tie.Need-returns
 returns c =
     let s = c .before .before .before .before .before .before .before .before .before .before .args in
     let w = rooms (now (s .lengths)) (now (s .counts)) (now (s .text)) in
-    hands countIn (c .from-written .ensures) (c .before .before .before .write-pool .ensures ∙ ap (λ (q : StringPool). writeOutcome q w (poolBytes q w) (now (s .out))) (c .before .before .before .before .before .state .ensures))
+    hands-on countIn (λ (p : StringPool). writeOutcome p w (poolBytes p w) (now (s .out))) (c .from-written .ensures) (c .before .before .before .before .before .state .ensures) (c .before .before .before .write-pool .ensures)
 
 pub strandroost-write-pool-spec : {M : Type 1} → statement M
 strandroost-write-pool-spec =

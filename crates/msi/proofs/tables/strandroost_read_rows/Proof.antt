@@ -9,8 +9,9 @@ use Rattle.msi.proofs.tables.strandroost_read_rows.Tie as tie
 
 returns : tie.Need-returns
 returns c =
-    let t = c .before .before .before .before .before .before .before .before .before .before .args .table in
-    hands (λ (a : Answer ℕ). countIn (onTable t a)) (c .from-rows .ensures) (rw (c .before .before .before .before .before .before .before .table-in .ensures) at (c .before .before .before .before .read-rows .ensures))
+    let called = c .before .before .before .before in
+    let t = called .before .before .before .before .before .before .args .table in
+    hands (λ (a : Answer ℕ). countIn (onTable t a)) (c .from-rows .ensures) (rw (called .before .before .before .table-in .ensures) at (called .read-rows .ensures))
 
 pub strandroost-read-rows-spec : {M : Type 1} → statement M
 strandroost-read-rows-spec =

@@ -2,9 +2,6 @@ use mathlib.Core.Path.{_≡_, sym, ap, ap₂, _∙_}
 use mathlib.Core.List.{List}
 use Prim.Native.Nat.{ℕ}
 use lib.IntN.{ℤ}
-use mir.Syntax.{w32}
-use mir.Val.{SFits, toZ, ofZ}
-use mir.ValLaws.{toZ-ofZ}
 use denote.Ref.{now}
 use Rattle.common.specs.Answers.{Answer, nowhere, onGiven}
 use Rattle.stringpool.specs.Pool.{Rooms, rooms}
@@ -18,6 +15,7 @@ use Rattle.stringpool.specs.Show.{orEmpty}
 use Rattle.c_types.specs.Unknown.{onKind}
 use Rattle.c_types.specs.Values.{valueIn}
 use Rattle.msi.proofs.Gets.{written, got-refused, got-given, refusal-said, given-said}
+use Rattle.msi.proofs.Handed.{back}
 use Rattle.msi.proofs.UnknownKinds.{kind-refused, kind-known, text-unknown}
 use borrow.Author.Needs.{needs}
 use Rattle.msi.proofs.values.strandroost_to_text.Statement.{statement}
@@ -33,37 +31,43 @@ Value s = valueIn (s .args .kind) (s .args .number)
 abbrev Text : tie.Start → Answer (List ℕ)
 Text s = textAnswer (refKind (Value s)) (refNumber (Value s)) (stateIn (s .args .pool)) (Lent s)
 
-value-is : (c : tie.After-value-in) → c .value-in .result ≡ Value (c .before .before .before .before .before .before)
-value-is c =
-    let z : ℤ = c .before .before .before .before .before .before .args .number in
-    let fits : SFits w32 z = search needs in
-    c .value-in .ensures ∙ ap (valueIn (c .before .before .before .before .before .before .args .kind)) (toZ-ofZ w32 z fits)
+-- where the call began
+abbrev Begun : tie.After-value-in → tie.Start
+Begun c = c .before .before .before .before .before .before
 
-said : (c : tie.After-to-value) → shownAs (c .to-value .result) ≡ shownAnswer (refKind (Value (c .before .before .before .before .before .before .before))) (refNumber (Value (c .before .before .before .before .before .before .before))) (stateIn (c .before .before .before .before .before .before .before .args .pool)) (Lent (c .before .before .before .before .before .before .before))
-said c =
-    c .to-value .ensures
-    ∙ ap₂ (λ (x : ValueRef) (q : StringPool). shownAnswer (refKind x) (refNumber x) q (Lent (c .before .before .before .before .before .before .before))) (value-is (c .before)) (c .before .before .state .ensures)
+value-is : (c : tie.After-value-in) → c .value-in .result ≡ Value (Begun c)
+value-is c = c .value-in .ensures ∙ ap (valueIn (Begun c .args .kind)) (back (Begun c .args .number) (Begun c .fits .number))
+
+-- what holds of the call on the value and the state as they were made holds of what C handed over
+asked : {A B : Type 0} (call : ℕ → ℤ → StringPool → Rooms → Answer A) (f : Answer A → B) (c : tie.After-value-in) {x : B}
+    → x ≡ f (call (refKind (c .value-in .result)) (refNumber (c .value-in .result)) (c .before .state .result) (Lent (Begun c)))
+    → x ≡ f (call (refKind (Value (Begun c))) (refNumber (Value (Begun c))) (stateIn (Begun c .args .pool)) (Lent (Begun c)))
+asked call f c e = e ∙ ap₂ (λ (v : ValueRef) (p : StringPool). f (call (refKind v) (refNumber v) p (Lent (Begun c)))) (value-is c) (c .before .state .ensures)
 
 returns : tie.Need-returns
 returns c =
-    let s = c .before .before .before .before .before .before .before .before .before .before .before .before in
+    let shown = c .before .before .before in
+    let made = shown .before .before .before in
+    let s = Begun made in
     text-unknown (s .args .kind) (Text s) (now (s .args .out)) (sym (c .before .before .is-unknown .ensures) ∙ c .before .if1 .taken)
-    (given-said (Text s) _ _ (ap shownAs (sym (c .before .before .before .enum-told .given .1)) ∙ said (c .before .before .before .before .before))) (simp (c .unknown-kind .ensures))
+    (given-said (Text s) _ _ (asked shownAnswer (λ a. a) made (ap shownAs (sym (shown .enum-told .given .1)) ∙ shown .before .before .to-value .ensures))) (simp (c .unknown-kind .ensures))
 
 returns-2 : tie.Need-returns-2
 returns-2 c =
-    let s = c .before .before .before .before .before .before .before .before .before .before .before in
+    let made = c .before .before .before .before .before in
+    let s = Begun made in
     let why = c .before .before .shown .given .0 .0 in
     got-refused (onKind nowhere (s .args .kind) (Text s)) why (now (s .args .out))
-    (kind-refused (s .args .kind) (Text s) why (refusal-said (Text s) _ why (ap shownAs (sym (c .before .before .shown .given .1)) ∙ said (c .before .before .before .before)))) (c .refused-count .ensures)
+    (kind-refused (s .args .kind) (Text s) why (refusal-said (Text s) _ why (asked shownAnswer (λ a. a) made (ap shownAs (sym (c .before .before .shown .given .1)) ∙ c .before .before .before .before .to-value .ensures)))) (c .refused-count .ensures)
 
 returns-3 : tie.Need-returns-3
 returns-3 c =
-    let s = c .before .before .before .before .before .before .before .before .before .before .before .before .before .before .before .before in
+    let shown = c .before .before .before .before .before .before .before in
+    let made = shown .before .before .before in
+    let s = Begun made in
     let known = sym (c .before .before .before .before .before .before .is-unknown .ensures) ∙ c .before .before .before .before .before .if1 .left in
-    got-given (Text s) (now (s .args .out)) (given-said (Text s) _ _ (ap shownAs (sym (c .before .before .before .before .before .before .before .enum-told .given .1)) ∙ said (c .before .before .before .before .before .before .before .before .before)))
-    (c .before .before .before .before .to-text .ensures ∙ ap₂ (λ (x : ValueRef) (q : StringPool). orEmpty (textAnswer (refKind x) (refNumber x) q (Lent s))) (value-is (c .before .before .before .before .before .before .before .before .before .before)) (c .before .before .before .before .before .before .before .before .before .before .before .state .ensures))
-    (c .before .before .copied .ensures)
+    got-given (Text s) (now (s .args .out)) (given-said (Text s) _ _ (asked shownAnswer (λ a. a) made (ap shownAs (sym (shown .enum-told .given .1)) ∙ shown .before .before .to-value .ensures)))
+    (asked textAnswer orEmpty made (c .before .before .before .before .to-text .ensures)) (c .before .before .copied .ensures)
     ∙ ap (λ (a : Answer (List ℕ)). written (now (s .args .out)) (onGiven a (λ t. writeAnswer t (now (s .args .out))))) (kind-known (s .args .kind) (Text s) known)
 
 pub strandroost-to-text-spec : {M : Type 1} → statement M

@@ -5,12 +5,11 @@ use mathlib.Core.List.{List, _++_}
 use lib.ListN.{length, take, drop}
 use lib.Seq.{take-length}
 use borrow.Author.Tests.{lt-ltb, le-ltb}
-use Rattle.common.specs.Answers.{Answer, gives, refused, nowhere, onGiven, outcome, refusalOf}
+use Rattle.common.specs.Answers.{Answer, gives, refused, nowhere, onGiven, outcome, refusalOf, writtenTo}
 use Rattle.common.specs.Refusals.{refusedBy}
 use Rattle.common.specs.declared.refusal.Refusal.{Refusal}
 use Rattle.common.proofs.Outcomes.{refused-gives}
 use Rattle.stringpool.specs.Show.{orEmpty}
-use Rattle.stringpool.specs.Write.{writeAnswer}
 use Rattle.c_types.specs.Answers.{refusalIn, countIn, answeredAs}
 use Rattle.c_types.specs.declared.answers.Count.{Count}
 
@@ -46,19 +45,19 @@ given-said (refused n at) x y e = absurd (refused-gives (sym e))
 abbrev pub written : List ℕ → Answer (ℕ × List ℕ) → Count × List ℕ
 written out a = answeredAs countIn (outcome out a)
 
-pub copied-short : (t out : List ℕ) {r : Count} → length out < length t → r ≡ countIn (refused 7 nowhere) → (r, out) ≡ written out (writeAnswer t out)
+pub copied-short : (t out : List ℕ) {r : Count} → length out < length t → r ≡ countIn (refused 7 nowhere) → (r, out) ≡ written out (writtenTo out t)
 copied-short t out short made = simp (lt-ltb _ _ short, made)
 
 pub copied-whole : (t out : List ℕ) {r : Count} {new : List ℕ} → length t ≤ length out → r ≡ countIn (gives (length t))
-    → new ≡ take (length t) t ++ drop (length t) out → (r, new) ≡ written out (writeAnswer t out)
+    → new ≡ take (length t) t ++ drop (length t) out → (r, new) ≡ written out (writtenTo out t)
 copied-whole t out fits made left = simp (le-ltb _ _ fits, made, left, take-length t)
 
 pub got-refused : (shown : Answer (List ℕ)) (why : Refusal) (out : List ℕ) {r : Count} → refusedBy why ≡ refusalOf shown → r ≡ countIn (refusedBy why)
-    → (r, out) ≡ written out (onGiven shown (λ t. writeAnswer t out))
+    → (r, out) ≡ written out (onGiven shown (λ t. writtenTo out t))
 got-refused shown why out told made =
-    ap (λ (k : Count). (k, out)) made ∙ ap (written out) (shown-refused shown why (λ t. writeAnswer t out) told)
+    ap (λ (k : Count). (k, out)) made ∙ ap (written out) (shown-refused shown why (λ t. writtenTo out t) told)
 
 pub got-given : (shown : Answer (List ℕ)) (out : List ℕ) {part new : List ℕ} {r : Count} → gives tt ≡ refusalOf shown → part ≡ orEmpty shown
-    → (r, new) ≡ written out (writeAnswer part out) → (r, new) ≡ written out (onGiven shown (λ t. writeAnswer t out))
+    → (r, new) ≡ written out (writtenTo out part) → (r, new) ≡ written out (onGiven shown (λ t. writtenTo out t))
 got-given shown out told part copied =
-    copied ∙ ap (λ (t : List ℕ). written out (writeAnswer t out)) part ∙ ap (written out) (shown-given shown (λ t. writeAnswer t out) told)
+    copied ∙ ap (λ (t : List ℕ). written out (writtenTo out t)) part ∙ ap (written out) (shown-given shown (λ t. writtenTo out t) told)

@@ -9,12 +9,11 @@ use borrow.Author.Tests.{ne-eqb, ltb-true}
 use native.Mathlib.Omega.{arith}
 use Rattle.common.specs.Choice.{if_then_else_, _<?_}
 use Rattle.common.specs.Sizes.{maxBytes}
-use Rattle.common.specs.Answers.{Answer, gives, refused, nowhere, onGiven, outcome, refusalOf}
+use Rattle.common.specs.Answers.{Answer, gives, refused, nowhere, onGiven, outcome, refusalOf, writtenTo}
 use Rattle.common.specs.Refusals.{refusedBy}
 use Rattle.common.specs.declared.refusal.Refusal.{Refusal}
 use Rattle.common.proofs.Outcomes.{refused-gives}
 use Rattle.stringpool.specs.Pool.{Rooms, sound}
-use Rattle.stringpool.specs.Write.{writeAnswer}
 use Rattle.stringpool.specs.declared.pool.StringPool.{StringPool}
 use Rattle.cell.specs.Kinds.{refKind, refNumber, valueKind, valueNumber}
 use Rattle.cell.specs.declared.value.ValueRef.the-variants as values
@@ -84,6 +83,6 @@ pub kind-known : {A : Type 0} (kind : ℕ) (shown : Answer A) → unknown kind �
 kind-known kind shown e = rw e
 
 pub text-unknown : (kind : ℕ) (shown : Answer (List ℕ)) (out : List ℕ) {r : Count} → unknown kind ≡ true → gives tt ≡ refusalOf shown → r ≡ countIn (refused 16 nowhere)
-    → (r, out) ≡ written out (onGiven (onKind nowhere kind shown) (λ t. writeAnswer t out))
+    → (r, out) ≡ written out (onGiven (onKind nowhere kind shown) (λ t. writtenTo out t))
 text-unknown kind (gives t) out e told made = rw e (ap (λ (k : Count). (k, out)) made)
 text-unknown kind (refused n at) out e told made = absurd (refused-gives (sym told))

@@ -2,9 +2,11 @@
 use mathlib.Core.Path.{refl, ap₂}
 use Prim.Native.Nat.{ℕ}
 use mathlib.Core.List.{List}
-use Rattle.common.specs.Answers.{Answer, onGiven}
+use lib.ListN.{length}
+use Rattle.common.specs.Lists.{total}
+use Rattle.common.specs.Answers.{Answer, gives, onGiven}
+use Rattle.order.specs.Order.{loadFits}
 use Rattle.pool_stream.specs.Entries.{entryBytes}
-use Rattle.pool_stream.specs.Plan.{sizesOf, fitted}
 use Rattle.pool_stream.specs.Points.{BytesLeft, LongLength, ShortLong, Written, Marks, CutFirst}
 
 pub bytes-left : BytesLeft
@@ -27,7 +29,7 @@ marks = (refl, refl, refl)
 pub cut-first : CutFirst
 cut-first = (
   λ s entries stream text e f.
-      ap₂ (λ (a : Answer (Unit {0})) (b : Answer (List ℕ × List ℕ)). onGiven a (λ _. onGiven (sizesOf b) (fitted entries stream text))) e f,
+      ap₂ (λ (a : Answer (Unit {0})) (b : Answer (List ℕ × List ℕ)). onGiven a (λ _. onGiven b (λ x. onGiven (loadFits (length (x .0)) (total (x .0)) entries stream text) (λ _. gives x)))) e f,
   refl,
   refl,
 )

@@ -16,7 +16,8 @@ use Rattle.common.proofs.Outcomes.{refused-gives}
 use Rattle.little_endian.specs.Numbers.{numberAt}
 use Rattle.pool_stream.specs.Entries.{Found, one, cut, ends, entryIn, withEntry, onFound, entriesIn, poolEntries}
 use Rattle.pool_stream.specs.inner.Found.{foundAs}
-use Rattle.pool_stream.specs.Plan.{sizesOf, orNone}
+use Rattle.pool_stream.specs.Plan.{sizesOf}
+use Rattle.pool_stream.specs.inner.Sizes.{orNone}
 use Rattle.pool_stream.specs.declared.entry.PoolEntry.{PoolEntry}
 use Rattle.pool_stream.specs.declared.entry.PoolEntry.the-variants.{One, Cut, End}
 

@@ -7,7 +7,8 @@ ghost use Rattle.pool_stream.specs.Entries.{entryIn, shortOf, entryBytes
 ghost use Rattle.pool_stream.specs.inner.Found.{foundAs};
 ghost use Rattle.pool_stream.specs.Entries as entries;
 
-// What stands at the front of the bytes that are left of a pool stream.
+// What stands at the front of the bytes that are left of a pool stream. A load does not ask for `wide` and `stray`: they are for a check
+// that a stream is tidy (document 02, E13), whose rules forbid a 4-byte length up to 65,535 and a stray byte.
 pub(crate) enum PoolEntry {
     One {
         length: u32,

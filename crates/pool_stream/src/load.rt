@@ -7,22 +7,23 @@ ghost use mathlib.Core.Path.{_≡_};
 ghost use Prim.Native.Nat.{min};
 ghost use lib.ListN.{length};
 ghost use lib.Seq.{paste};
+ghost use Rattle.pool_entries.specs.Entries.{rooms};
 ghost use Rattle.pool_stream.specs.Plan.{entriesOutcome, plannedAs};
 ghost use Rattle.pool_stream.specs.inner.Sizes.{lengthsIn, countsIn, Filling};
 
-// Judges a load, by a data stream and a text room of those sizes too, and writes the lengths and counts of the entries.
+// Judges a load, by a data stream of that size too, and writes the lengths and counts of the entries.
 pub fn load_entries(
     pool: &[u8],
     stream: usize,
-    text: usize,
     lengths: &mut [u32],
     counts: &mut [u16],
+    text: &[u8],
 ) -> LoadPlan
-    ensures { λ r. ⌜ (plannedAs r, (now (lengths .exit), now (counts .exit)))
-        ≡ entriesOutcome (now (pool .entry)) stream text (now (lengths .entry), now (counts .entry)) ⌝ }
+    ensures { λ r. ⌜ (plannedAs r, rooms (now (lengths .exit)) (now (counts .exit)) (now (text .entry)))
+        ≡ entriesOutcome (now (pool .entry)) stream (rooms (now (lengths .entry)) (now (counts .entry)) (now (text .entry))) ⌝ }
 {
     let entries = entry_room(lengths.len(), counts.len());
-    let plan = plan_load(pool, entries, stream, text);
+    let plan = plan_load(pool, entries, stream, text.len());
     if let LoadPlan::Of(n, _) = plan {
         fill(pool, n, lengths, counts);
     }

@@ -8,8 +8,10 @@ use order::streams_fit;
 ghost use mathlib.Core.Path.{_≡_};
 ghost use Prim.Native.Nat.{_≤_};
 ghost use lib.ListN.{length};
+ghost use Rattle.common.specs.Answers.{gives, onGiven};
+ghost use Rattle.order.specs.Order.{loadFits};
 ghost use Rattle.pool_stream.specs.Entries.{poolEntries};
-ghost use Rattle.pool_stream.specs.Plan.{sizesOf, fitted, loadPlan, plannedAs};
+ghost use Rattle.pool_stream.specs.Plan.{sizesOf, loadPlan, plannedAs};
 ghost use Rattle.pool_stream.specs.inner.Sizes.{sizedAs};
 
 pub enum LoadPlan {
@@ -24,7 +26,7 @@ pub(crate) enum Sized {
 
 // Judges a load: the pool stream, and the sizes of the entry room, the data stream and the text room.
 pub(crate) fn plan_load(pool: &[u8], entries: usize, stream: usize, text: usize) -> LoadPlan
-    ensures { λ r. ⌜ plannedAs r ≡ loadPlan (now (pool .entry)) entries stream text ⌝ }
+    ensures { λ r. ⌜ plannedAs r ≡ sizesOf (loadPlan (now (pool .entry)) entries stream text) ⌝ }
 {
     let fits = streams_fit(pool.len(), stream, text);
     if let Fits::Refused(why) = fits {
@@ -39,7 +41,7 @@ pub(crate) fn plan_load(pool: &[u8], entries: usize, stream: usize, text: usize)
 
 // The same where the pool stream has n entries, none cut, whose lengths sum to sum.
 fn plan_sized(n: usize, sum: u64, entries: usize, stream: usize, text: usize) -> LoadPlan
-    ensures { λ r. ⌜ plannedAs r ≡ fitted entries stream text (n, sum) ⌝ }
+    ensures { λ r. ⌜ plannedAs r ≡ onGiven (loadFits n sum entries stream text) (λ _. gives (n, sum)) ⌝ }
 {
     let fits = load_fits(n, sum, entries, stream, text);
     match fits {

@@ -6,7 +6,7 @@ use Rattle.common.specs.Choice.{_≤?_}
 use Rattle.common.specs.Lists.{_over_, total}
 use Rattle.common.specs.Answers.{Answer, gives, outcome, onGiven}
 use Rattle.little_endian.specs.Numbers.{numberAt}
-use Rattle.order.specs.Order.{streamsFit, loadFits}
+pub use Rattle.pool_stream.specs.Plan.{loadPlan}
 pub use Rattle.pool_stream.specs.Entries.{Found, one, cut, ends, entryIn, withEntry, onFound, entriesIn, poolEntries}
 use Rattle.stringpool.specs.Pool.{Rooms, rooms, entryRoom}
 use Rattle.stringpool.specs.declared.pool.StringPool.{StringPool}
@@ -17,16 +17,13 @@ poolFrom s n =
     let mark = numberAt 4 s 0 in
     record { «num_strings» = n; «long_string_refs» = 2147483648 ≤? mark; codepage = mark % 2147483648 }
 
--- "The data stream holds the texts in entry order; bytes after them are ignored." 3, 4, 5, 6
-abbrev pub loadEntries : List ℕ → List ℕ → Rooms → List ℕ × List ℕ → Answer (StringPool × Rooms)
-loadEntries s d w x =
-    let used = total (x .0) in
-    onGiven (loadFits (length (x .0)) used (entryRoom w) (length d) (length (w .text)))
-    (λ _. gives (poolFrom s (length (x .0)), rooms (x .0 over w .lengths) (x .1 over w .counts) (take used d over w .text)))
+-- "The data stream holds the texts in entry order; bytes after them are ignored."
+abbrev pub loadEntries : List ℕ → List ℕ → Rooms → List ℕ × List ℕ → StringPool × Rooms
+loadEntries s d w x = (poolFrom s (length (x .0)), rooms (x .0 over w .lengths) (x .1 over w .counts) (take (total (x .0)) d over w .text))
 
--- "Order: 22 first .. Load: 1, 2, 3, 4, 5, 6."
+-- "Order: 22 first .. Load: 1, 2, 3, 4, 5, 6.": by `loadPlan`
 abbrev pub loadAnswer : List ℕ → List ℕ → Rooms → Answer (StringPool × Rooms)
-loadAnswer s d w = onGiven (streamsFit (length s) (length d) (length (w .text))) (λ _. onGiven (poolEntries s) (loadEntries s d w))
+loadAnswer s d w = onGiven (loadPlan s (entryRoom w) (length d) (length (w .text))) (λ x. gives (loadEntries s d w x))
 
 abbrev pub loadOutcome : List ℕ → List ℕ → Rooms → Answer StringPool × Rooms
 loadOutcome s d w = outcome w (loadAnswer s d w)

@@ -15,10 +15,6 @@ poolBytes p w = streamBytes (p .«num_strings») (p .«long_string_refs») (p .c
 abbrev pub dataBytes : StringPool → Rooms → List ℕ
 dataBytes p w = texts (entriesOf p w)
 
--- "7: output too small for the whole result"
-abbrev pub writeAnswer : List ℕ → List ℕ → Answer (ℕ × List ℕ)
-writeAnswer bytes out = writtenTo out bytes
-
--- 22, 24, 7
+-- 22, 24, then "7: output too small for the whole result"
 abbrev pub writeOutcome : StringPool → Rooms → List ℕ → List ℕ → Answer ℕ × List ℕ
-writeOutcome p w bytes out = outcome out (onSound p w (writeAnswer bytes out))
+writeOutcome p w bytes out = outcome out (onSound p w (writtenTo out bytes))

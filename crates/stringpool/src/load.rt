@@ -21,7 +21,7 @@ impl StringPool {
         ensures { λ a. ⌜ (pooledAs a, rooms (now (lengths .exit)) (now (counts .exit)) (now (text .exit)))
             ≡ loadOutcome (now (pool .entry)) (now (texts .entry)) (rooms (now (lengths .entry)) (now (counts .entry)) (now (text .entry))) ⌝ }
     {
-        let plan = load_entries(pool, texts.len(), text.len(), lengths, counts);
+        let plan = load_entries(pool, texts.len(), lengths, counts, text);
         match plan {
             LoadPlan::Refused(why) => Pooled::Refused(why),
             LoadPlan::Of(n, used) => {

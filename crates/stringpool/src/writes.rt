@@ -8,16 +8,16 @@ use text_room::copy_in;
 ghost use mathlib.Core.Path.{_≡_};
 ghost use Prim.Native.Nat.{_≤_};
 ghost use lib.ListN.{length, take};
-ghost use Rattle.common.specs.Answers.{outcome};
+ghost use Rattle.common.specs.Answers.{outcome, writtenTo};
 ghost use Rattle.stringpool.specs.Pool.{rooms};
 ghost use Rattle.little_endian.specs.Numbers.{writtenAs};
-ghost use Rattle.stringpool.specs.Write.{poolBytes, dataBytes, writeAnswer, writeOutcome};
+ghost use Rattle.stringpool.specs.Write.{poolBytes, dataBytes, writeOutcome};
 
 // Writes the used part of the text room: the texts in entry order.
 fn write_texts(text: &[u8], used: usize, out: &mut [u8]) -> Written
     requires { ⌜ (used ≤ length (now text)) × (used ≤ 268435455) ⌝ }
     ensures { λ a. ⌜ (writtenAs a, now (out .exit)) ≡ outcome (now (out .entry))
-        (writeAnswer (take used (now (text .entry))) (now (out .entry))) ⌝ }
+        (writtenTo (now (out .entry)) (take used (now (text .entry)))) ⌝ }
 {
     copy_in(&text[..used], out)
 }

@@ -10,13 +10,13 @@ use lib.Seq.{length-take-le, take-all, take-at, drop-at, getD-take}
 use borrow.Author.Tests.{ltb-true, ltb-false, leb-true, le-ltb, le-leb, lt-leb, eqb-true, eq-eqb}
 use Rattle.common.specs.Choice.{if_then_else_}
 use Rattle.common.specs.Lists.{_over_, total}
-use Rattle.common.specs.Answers.{Answer, gives, refused, nowhere, outcome, onGiven}
+use Rattle.common.specs.Answers.{Answer, gives, refused, nowhere, outcome, onGiven, writtenTo}
 use Rattle.little_endian.specs.Numbers.{bytesOf, numberAt}
 use Rattle.little_endian.proofs.Laws.{read-back, number-past}
 use Rattle.stringpool.specs.Pool.{Entry, Rooms, rooms, cut, entriesOf, entryRoom}
-use Rattle.stringpool.specs.Load.{Found, one, ends, entryIn, withEntry, onFound, entriesIn, poolEntries, poolFrom, loadEntries, loadOutcome}
+use Rattle.stringpool.specs.Load.{Found, one, ends, entryIn, withEntry, onFound, entriesIn, poolEntries, poolFrom, loadPlan, loadEntries, loadOutcome}
 use Rattle.stringpool.specs.Load as load
-use Rattle.stringpool.specs.Write.{shortOf, wide, entryBytes, markOf, poolBytes, dataBytes, writeAnswer, writeOutcome}
+use Rattle.stringpool.specs.Write.{shortOf, wide, entryBytes, markOf, poolBytes, dataBytes, writeOutcome}
 use Rattle.pool_entries.specs.inner.Sound.{smallB, allSmall}
 use Rattle.stringpool.specs.inner.Entries.{lengthsOf, countsOf}
 use Rattle.pool_stream.specs.inner.Write.{entriesBytes, streamBy}
@@ -26,6 +26,7 @@ use Rattle.pool_entries.proofs.Sound.{then-second, false-true}
 use Rattle.pool_stream.proofs.Writing.{is-narrow, is-wide, length-narrow, length-wide, length-entry, write-done}
 use Rattle.pool_stream.proofs.Writing.{stream-same}
 use Rattle.stringpool_promises.specs.Promises.{SoundState, Counts16, ReadsBack, Writes}
+use Rattle.order.specs.Order.{loadFits}
 use Rattle.order.proofs.Laws.{streams-do}
 use Rattle.stringpool_promises.proofs.Lists.{cut-texts}
 use Rattle.stringpool_promises.proofs.Sounds.{SoundFit, sound-fits}
@@ -207,11 +208,14 @@ module _ (p : StringPool) (w : Rooms) (f : SoundFit p w) (size : length (w .text
         let fb : ltb (entryRoom v) (length L) ≡ false = le-ltb (entryRoom v) (length L) (omega (arith, many, room)) in
         let fc : ltb (length D) (total L) ≡ false = le-ltb (length D) (total L) (omega (arith, length-D)) in
         let fd : ltb (length (v .text)) (total L) ≡ false = le-ltb (length (v .text)) (total L) (omega (arith, length-D, text)) in
-        let g : loadEntries S D v (L, C) ≡ gives (poolFrom S (length L), Left) = simp (fa, fb, fc, fd) in
-        ap (λ (a : Answer (Unit {0})). outcome v (onGiven a (λ _. onGiven (poolEntries S) (loadEntries S D v))))
+        let fitting : List ℕ × List ℕ → Answer (List ℕ × List ℕ) = λ x. onGiven (loadFits (length (x .0)) (total (x .0)) (entryRoom v) (length D) (length (v .text))) (λ _. gives x) in
+        let g : fitting (L, C) ≡ gives (L, C) = simp (fa, fb, fc, fd) in
+        let made : loadPlan S (entryRoom v) (length D) (length (v .text)) ≡ gives (L, C) =
+        ap (λ (a : Answer (Unit {0})). onGiven a (λ _. onGiven (poolEntries S) fitting))
         (streams-do (length S) (length D) (length (v .text)) (omega (arith, b, many, f .few, length-S)) (omega (arith, length-D, f .fit .text)) small (omega (arith, length-S)))
-        ∙ ap (λ (x : Answer (List ℕ × List ℕ)). outcome v (onGiven x (loadEntries S D v))) e
-        ∙ ap (outcome v) g
+        ∙ ap (λ (x : Answer (List ℕ × List ℕ)). onGiven x fitting) e
+        ∙ g in
+        ap (λ (x : Answer (List ℕ × List ℕ)). outcome v (onGiven x (λ y. gives (loadEntries S D v y)))) made
         ∙ ap (λ (i : ℕ). (gives (poolFrom S i), Left)) many ∙ ap (λ (q : StringPool). (gives q, Left)) marked-pool
 
     pub read-same : entriesOf p Left ≡ entriesOf p w
@@ -228,7 +232,7 @@ module _ (p : StringPool) (w : Rooms) (f : SoundFit p w) (size : length (w .text
 
 pub writes : (p : StringPool) (w : Rooms) (s out : List ℕ) → SoundState (record { pool = p; rooms = w }) → length s ≤ length out → Writes p w s out s
 writes p w s out h room =
-    ap₂ (λ (x y : Bool). outcome out (if x then refused 22 nowhere else if not y then refused 24 nowhere else writeAnswer s out)) (le-ltb 268435455 (length (w .text)) (h .0)) (h .1)
+    ap₂ (λ (x y : Bool). outcome out (if x then refused 22 nowhere else if not y then refused 24 nowhere else writtenTo out s)) (le-ltb 268435455 (length (w .text)) (h .0)) (h .1)
     ∙ sym (write-done s out (length s) (s over out) room refl refl)
 
 pub reads-back : ReadsBack

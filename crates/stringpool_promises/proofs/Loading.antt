@@ -20,7 +20,7 @@ use Rattle.common.proofs.Outcomes.{outcome-gives}
 use Rattle.order.specs.Order.{streamsFit, loadFits}
 use Rattle.order.proofs.Laws.{streams-fit, load-fits}
 use Rattle.stringpool.specs.Pool.{Rooms, rooms, entryRoom}
-use Rattle.stringpool.specs.Load.{Found, one, cut, ends, entryIn, onFound, entriesIn, poolEntries, poolFrom, loadEntries, loadAnswer, loadOutcome}
+use Rattle.stringpool.specs.Load.{Found, one, cut, ends, entryIn, onFound, entriesIn, poolEntries, poolFrom, loadPlan, loadEntries, loadAnswer, loadOutcome}
 use Rattle.pool_entries.specs.inner.Sound.{smallB, allSmall}
 use Rattle.stringpool_promises.proofs.Sounds.{SoundFit, fit-sound}
 use Rattle.stringpool_promises.specs.Promises.{LoadsSound}
@@ -78,17 +78,19 @@ pub record IsLoaded (s d : List ℕ) (w : Rooms) (p : StringPool) (v : Rooms) : 
 
 pub is-loaded : (s d : List ℕ) (w : Rooms) (p : StringPool) (v : Rooms) → loadOutcome s d w ≡ (gives p, v) → IsLoaded s d w p v
 is-loaded s d w p v e =
-    let a = gave (streamsFit (length s) (length d) (length (w .text))) (λ _. onGiven (poolEntries s) (loadEntries s d w)) (p, v) (outcome-gives w (loadAnswer s d w) e) in
+    let z = gave (loadPlan s (entryRoom w) (length d) (length (w .text))) (λ x. gives (loadEntries s d w x)) (p, v) (outcome-gives w (loadAnswer s d w) e) in
+    let fitting : List ℕ × List ℕ → Answer (List ℕ × List ℕ) = λ x. onGiven (loadFits (length (x .0)) (total (x .0)) (entryRoom w) (length d) (length (w .text))) (λ _. gives x) in
+    let a = gave (streamsFit (length s) (length d) (length (w .text))) (λ _. onGiven (poolEntries s) fitting) (z .first) (z .is) in
     let sizes = streams-fit (length s) (length d) (length (w .text)) (a .is) in
-    let g = gave (poolEntries s) (loadEntries s d w) (p, v) (a .then') in
-    let ls : List ℕ = g .first .0 in
-    let ready : StringPool × Rooms = (poolFrom s (length ls), rooms (ls over w .lengths) (g .first .1 over w .counts) (take (total ls) d over w .text)) in
-    let b = gave (loadFits (length ls) (total ls) (entryRoom w) (length d) (length (w .text))) (λ _. gives ready) (p, v) (g .then') in
-    let fits = load-fits (length ls) (total ls) (entryRoom w) (length d) (length (w .text)) (b .is) in
+    let g = gave (poolEntries s) fitting (z .first) (a .then') in
+    let b = gave (loadFits (length (g .first .0)) (total (g .first .0)) (entryRoom w) (length d) (length (w .text))) (λ _. gives (g .first)) (z .first) (g .then') in
+    let same : g .first ≡ z .first = ap (given (z .first)) (b .then') in
+    let ls : List ℕ = z .first .0 in
+    let fits = load-fits (length ls) (total ls) (entryRoom w) (length d) (length (w .text)) (subst (λ (x : List ℕ × List ℕ). loadFits (length (x .0)) (total (x .0)) (entryRoom w) (length d) (length (w .text)) ≡ gives tt) same (b .is)) in
     record {
       ls = ls;
-      cs = g .first .1;
-      entries = g .is;
+      cs = z .first .1;
+      entries = g .is ∙ ap gives same;
       marked = sizes .3;
       stream = sizes .0;
       size = sizes .2;
@@ -96,8 +98,8 @@ is-loaded s d w p v e =
       room = fits .1;
       in-data = fits .2;
       in-text = fits .3;
-      pool = sym (ap (λ (x : Answer (StringPool × Rooms)). given (p, v) x .0) (b .then'));
-      left = sym (ap (λ (x : Answer (StringPool × Rooms)). given (p, v) x .1) (b .then'));
+      pool = sym (ap (λ (x : Answer (StringPool × Rooms)). given (p, v) x .0) (z .then'));
+      left = sym (ap (λ (x : Answer (StringPool × Rooms)). given (p, v) x .1) (z .then'));
     }
 
 -- ---- the entries read are small where they are free, and there are as many counts as lengths

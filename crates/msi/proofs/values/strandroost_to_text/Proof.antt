@@ -3,9 +3,8 @@ use mathlib.Core.List.{List}
 use Prim.Native.Nat.{ℕ}
 use lib.IntN.{ℤ}
 use denote.Ref.{now}
-use Rattle.common.specs.Answers.{Answer, nowhere, onGiven}
+use Rattle.common.specs.Answers.{Answer, nowhere, onGiven, writtenTo}
 use Rattle.stringpool.specs.Pool.{Rooms, rooms}
-use Rattle.stringpool.specs.Write.{writeAnswer}
 use Rattle.stringpool.specs.declared.pool.StringPool.{StringPool}
 use Rattle.c_types.specs.Pools.{stateIn}
 use Rattle.cell.specs.declared.value.ValueRef.{ValueRef}
@@ -68,7 +67,7 @@ returns-3 c =
     let known = sym (c .before .before .before .before .before .before .is-unknown .ensures) ∙ c .before .before .before .before .before .if1 .left in
     got-given (Text s) (now (s .args .out)) (given-said (Text s) _ _ (asked shownAnswer (λ a. a) made (ap shownAs (sym (shown .enum-told .given .1)) ∙ shown .before .before .to-value .ensures)))
     (asked textAnswer orEmpty made (c .before .before .before .before .to-text .ensures)) (c .before .before .copied .ensures)
-    ∙ ap (λ (a : Answer (List ℕ)). written (now (s .args .out)) (onGiven a (λ t. writeAnswer t (now (s .args .out))))) (kind-known (s .args .kind) (Text s) known)
+    ∙ ap (λ (a : Answer (List ℕ)). written (now (s .args .out)) (onGiven a (λ t. writtenTo (now (s .args .out)) t))) (kind-known (s .args .kind) (Text s) known)
 
 pub strandroost-to-text-spec : {M : Type 1} → statement M
 strandroost-to-text-spec =

@@ -5,8 +5,9 @@ use Rattle.common.specs.Answers.{Answer, gives, onGiven}
 use Rattle.order.specs.Order.{fitsAs, streamsFit}
 use Rattle.order.proofs.Laws.{streams-fit}
 use Rattle.pool_stream.specs.Entries.{poolEntries}
-use Rattle.pool_stream.specs.Plan.{sizesOf, fitted}
+use Rattle.pool_stream.specs.Plan.{sizesOf}
 use Rattle.pool_stream.specs.inner.Sizes.{sizedAs}
+use Rattle.pool_stream.proofs.Planning.{fitted, plan-sizes}
 use borrow.Author.Needs.{needs}
 use Rattle.pool_stream.proofs.plan.plan_load.Statement.{statement}
 use Rattle.pool_stream.proofs.plan.plan_load.Tie as tie
@@ -23,6 +24,7 @@ returns : tie.Need-returns
 returns c =
     let a = c .before .before .before .before .before .args in
     ap (λ (x : Answer (Unit {0})). By (a .entries) (a .stream) (a .text) x (sizesOf (poolEntries (a .pool .now)))) (sym (ap fitsAs (c .before .fits2 .given .1)) ∙ c .before .before .before .streams-fit .ensures)
+    ∙ plan-sizes (a .pool .now) (a .entries) (a .stream) (a .text)
 
 sizes-requires : tie.Need-sizes-requires
 sizes-requires c κs =
@@ -34,12 +36,14 @@ returns-2 : tie.Need-returns-2
 returns-2 c =
     let a = c .before .before .before .before .before .before .before .args in
     ap₂ (By (a .entries) (a .stream) (a .text)) (sym (fit (c .before .before .before))) (sym (ap sizedAs (c .enum-told2 .given .1)) ∙ c .before .before .sizes .ensures)
+    ∙ plan-sizes (a .pool .now) (a .entries) (a .stream) (a .text)
 
 returns-3 : tie.Need-returns-3
 returns-3 c =
     let a = c .before .before .before .before .before .before .before .before .before .args in
     c .plan-sized .ensures
     ∙ ap₂ (By (a .entries) (a .stream) (a .text)) (sym (fit (c .before .before .before .before .before))) (sym (ap sizedAs (c .before .before .sized .given .1)) ∙ c .before .before .before .before .sizes .ensures)
+    ∙ plan-sizes (a .pool .now) (a .entries) (a .stream) (a .text)
 
 pub plan-load-spec : {M : Type 1} → statement M
 plan-load-spec =

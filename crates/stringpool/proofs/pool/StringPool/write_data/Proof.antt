@@ -4,11 +4,11 @@ use native.Mathlib.Omega.{arith}
 use mathlib.Core.List.{List}
 use lib.ListN.{take}
 use Rattle.common.specs.Lists.{total}
-use Rattle.common.specs.Answers.{Answer, outcome}
+use Rattle.common.specs.Answers.{Answer, outcome, writtenTo}
 use Rattle.pool_entries.specs.Calls.{judgedAs}
 use Rattle.pool_entries.proofs.Calls.{call-refused, call-passed, call-size, call-given, call-on}
 use Rattle.stringpool.specs.Pool.{Rooms, rooms}
-use Rattle.stringpool.specs.Write.{dataBytes, writeAnswer}
+use Rattle.stringpool.specs.Write.{dataBytes}
 use Rattle.stringpool.proofs.Streams.{data-same}
 use borrow.Author.Needs.{needs}
 use Rattle.stringpool.proofs.pool.StringPool.write_data.Statement.{statement}
@@ -24,7 +24,7 @@ abbrev Used : tie.Start → ℕ
 Used s = total (take (n s) (s .args .lengths .now))
 
 abbrev Bytes : tie.Start → Answer (ℕ × List ℕ)
-Bytes s = writeAnswer (dataBytes (s .args .self) (W s)) (s .args .out .now)
+Bytes s = writtenTo (s .args .out .now) (dataBytes (s .args .self) (W s))
 
 write-texts-requires : tie.Need-write-texts-requires
 write-texts-requires c κs =
@@ -44,7 +44,7 @@ returns-2 c =
     let s = c .before .before .before .before .before .before .before .before .before .before .before .before in
     let e = sym (ap judgedAs (c .before .before .before .before .before .state2 .given .1)) ∙ c .before .before .before .before .before .before .before .judge .ensures in
     c .before .before .write-texts .ensures
-    ∙ ap (λ (x : List ℕ). outcome (s .args .out .now) (writeAnswer x (s .args .out .now))) (data-same (s .args .self) (W s) (call-passed (n s) (s .args .self .codepage) (W s) (Used s) e .fit) (call-given (n s) (s .args .self .codepage) (W s) (Used s) e))
+    ∙ ap (λ (x : List ℕ). outcome (s .args .out .now) (writtenTo (s .args .out .now) x)) (data-same (s .args .self) (W s) (call-passed (n s) (s .args .self .codepage) (W s) (Used s) e .fit) (call-given (n s) (s .args .self .codepage) (W s) (Used s) e))
     ∙ ap (outcome (s .args .out .now)) (call-on (n s) (s .args .self .codepage) (W s) (Used s) e (Bytes s))
 
 pub write-data-spec : {M : Type 1} → statement M

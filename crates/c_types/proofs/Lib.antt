@@ -1,6 +1,6 @@
 -- What the proofs of several functions use.
-mod Cells
 mod Mapped
+pub mod Numbers
 pub mod Points
 mod Unknown
 mod UnknownTypes

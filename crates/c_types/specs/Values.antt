@@ -16,7 +16,7 @@ use Rattle.pool_values.specs.Pooled.{createAnswer, removeAnswer, textAnswer, sh
 use Rattle.column.specs.Check.{checkAnswer}
 use Rattle.c_types.specs.Answers.{refusalIn, givenOr}
 use Rattle.c_types.specs.Columns.{columnFrom, onColumn}
-use Rattle.c_types.specs.Pools.{poolOut, noPool}
+use Rattle.c_types.specs.Pools.{noPool}
 use Rattle.c_types.specs.Unknown.{onKind}
 use Rattle.c_types.specs.declared.answers.ColumnParts.{ColumnParts}
 use Rattle.c_types.specs.declared.answers.CreateAnswer.{CreateAnswer}
@@ -59,4 +59,4 @@ abbrev pub noValue : (ℕ × ℤ) × StringPool
 noValue = ((0, pos 0), noPool)
 
 abbrev pub createdIn : Answer ((ℕ × ℤ) × StringPool) → CreateAnswer
-createdIn a = record { refused = refusalIn a; pool = poolOut (givenOr noValue a .1); kind = givenOr noValue a .0 .0; number = givenOr noValue a .0 .1 }
+createdIn a = record { refused = refusalIn a; pool = givenOr noValue a .1; kind = givenOr noValue a .0 .0; number = givenOr noValue a .0 .1 }

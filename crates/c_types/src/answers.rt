@@ -1,6 +1,7 @@
 // What the exported calls answer: the refusal, all 0 where there is none, then what was given, all 0 where the call was refused.
 use common::Place;
 use common::Refusal;
+use stringpool::StringPool;
 ghost use mathlib.Core.Path.{_≡_};
 ghost use Rattle.common.specs.Refusals.{numberOf, whereOf, refusedBy};
 ghost use Rattle.common.specs.Answers.{nowhere};
@@ -124,22 +125,15 @@ pub fn told_of(why: Refusal, coltype: u32) -> Refused
 
 // A pool's state; its rooms are lent beside it.
 #[repr(C)]
-pub struct Pool {
-    pub num_strings: usize,
-    pub codepage: u32,
-    pub long_string_refs: bool,
-}
-
-#[repr(C)]
 pub struct PoolAnswer {
     pub refused: Refused,
-    pub pool: Pool,
+    pub pool: StringPool,
 }
 
 #[repr(C)]
 pub struct TakeAnswer {
     pub refused: Refused,
-    pub pool: Pool,
+    pub pool: StringPool,
     pub reference: i32,
 }
 
@@ -205,7 +199,7 @@ pub struct StepAnswer {
 #[repr(C)]
 pub struct CreateAnswer {
     pub refused: Refused,
-    pub pool: Pool,
+    pub pool: StringPool,
     pub kind: u8,
     pub number: i32,
 }

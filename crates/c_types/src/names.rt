@@ -20,10 +20,7 @@ pub fn encoded(answer: Encoded) -> Count
             refused: none(),
             value,
         },
-        Encoded::Refused(why) => Count {
-            refused: told(why),
-            value: 0,
-        },
+        Encoded::Refused(why) => refused_count(why),
     }
 }
 

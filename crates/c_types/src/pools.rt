@@ -1,13 +1,12 @@
-// A pool's state, and the answers of the calls on pools.
+// The answers of the calls on pools.
 use crate::answers::Count;
-use crate::answers::Pool;
 use crate::answers::PoolAnswer;
 use crate::answers::Reference;
 use crate::answers::Refused;
 use crate::answers::TakeAnswer;
 use crate::answers::none;
+use crate::answers::refused_count;
 use crate::answers::told;
-use common::Refusal;
 use stringpool::Counted;
 use stringpool::Made;
 use stringpool::Pooled;
@@ -16,52 +15,21 @@ use stringpool::StringPool;
 use stringpool::Taken;
 use stringpool::Written;
 ghost use mathlib.Core.Path.{_≡_};
-ghost use Rattle.common.specs.Answers.{gives};
-ghost use Rattle.common.specs.Refusals.{refusedBy};
 ghost use Rattle.common.specs.Refs.{madeAs};
 ghost use Rattle.stringpool.specs.Show.{refcountAs, showableAs};
 ghost use Rattle.stringpool.specs.Take.{takenAs};
 ghost use Rattle.stringpool.specs.Pool.{pooledAs};
-ghost use Rattle.stringpool.specs.Write.{writtenAs};
+ghost use Rattle.little_endian.specs.Numbers.{writtenAs};
 ghost use Rattle.c_types.specs.Answers.{refusalIn, countIn};
-ghost use Rattle.c_types.specs.Pools.{stateIn, poolOut, noPool, poolIn, takenIn, referenceIn};
-
-pub fn state(pool: Pool) -> StringPool
-    ensures { λ r. ⌜ r ≡ stateIn pool ⌝ }
-{
-    StringPool {
-        num_strings: pool.num_strings,
-        long_string_refs: pool.long_string_refs,
-        codepage: pool.codepage,
-    }
-}
-
-pub fn state_out(pool: StringPool) -> Pool
-    ensures { λ r. ⌜ r ≡ poolOut pool ⌝ }
-{
-    Pool {
-        num_strings: pool.num_strings,
-        codepage: pool.codepage,
-        long_string_refs: pool.long_string_refs,
-    }
-}
-
-pub fn given_pool(pool: StringPool) -> PoolAnswer
-    ensures { λ r. ⌜ r ≡ poolIn (gives pool) ⌝ }
-{
-    PoolAnswer {
-        refused: none(),
-        pool: state_out(pool),
-    }
-}
+ghost use Rattle.c_types.specs.Pools.{noPool, poolIn, takenIn, referenceIn};
 
 // A refusal, and no pool beside it.
 pub fn no_pool(refused: Refused) -> PoolAnswer
-    ensures { λ r. ⌜ r ≡ record { refused = refused; pool = poolOut noPool } ⌝ }
+    ensures { λ r. ⌜ r ≡ record { refused = refused; pool = noPool } ⌝ }
 {
     PoolAnswer {
         refused,
-        pool: Pool {
+        pool: StringPool {
             num_strings: 0,
             codepage: 0,
             long_string_refs: false,
@@ -69,18 +37,15 @@ pub fn no_pool(refused: Refused) -> PoolAnswer
     }
 }
 
-fn refused_pool(why: Refusal) -> PoolAnswer
-    ensures { λ r. ⌜ r ≡ poolIn (refusedBy why) ⌝ }
-{
-    no_pool(told(why))
-}
-
 pub fn from_pooled(answer: Pooled) -> PoolAnswer
     ensures { λ r. ⌜ r ≡ poolIn (pooledAs answer) ⌝ }
 {
     match answer {
-        Pooled::Is(pool) => given_pool(pool),
-        Pooled::Refused(why) => refused_pool(why),
+        Pooled::Is(pool) => PoolAnswer {
+            refused: none(),
+            pool,
+        },
+        Pooled::Refused(why) => no_pool(told(why)),
     }
 }
 
@@ -90,12 +55,12 @@ pub fn from_taken(answer: Taken) -> TakeAnswer
     match answer {
         Taken::Ref(reference, pool) => TakeAnswer {
             refused: none(),
-            pool: state_out(pool),
+            pool,
             reference: reference.0,
         },
         Taken::Refused(why) => TakeAnswer {
             refused: told(why),
-            pool: Pool {
+            pool: StringPool {
                 num_strings: 0,
                 codepage: 0,
                 long_string_refs: false,
@@ -128,10 +93,7 @@ pub fn from_counted(answer: Counted) -> Count
             refused: none(),
             value: count as usize,
         },
-        Counted::Refused(why) => Count {
-            refused: told(why),
-            value: 0,
-        },
+        Counted::Refused(why) => refused_count(why),
     }
 }
 
@@ -143,10 +105,7 @@ pub fn from_written(answer: Written) -> Count
             refused: none(),
             value,
         },
-        Written::Refused(why) => Count {
-            refused: told(why),
-            value: 0,
-        },
+        Written::Refused(why) => refused_count(why),
     }
 }
 

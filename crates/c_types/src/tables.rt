@@ -12,7 +12,6 @@ use crate::answers::told_of;
 use crate::columns::builder_out;
 use crate::columns::column_in;
 use crate::columns::parts_of;
-use cell::ValueRef;
 use column::Column;
 use common::Place;
 use common::Refusal;
@@ -24,15 +23,12 @@ use table::Laid;
 use table::Table;
 use table::TableMade;
 ghost use mathlib.Core.Path.{_≡_};
-ghost use Rattle.common.specs.Answers.{gives};
 ghost use Rattle.common.specs.Refusals.{numberOf, whereOf};
-ghost use Rattle.cell.specs.Kinds.{cellAs};
 ghost use Rattle.table.specs.Layout.{laidAs, tableMadeAs};
 ghost use Rattle.table.specs.Reading.{countedAs, cellReadAs};
 ghost use lib.IntN.{pos};
 ghost use mathlib.Core.Bool.{false};
 ghost use Rattle.rows.specs.Next.{stepAs};
-ghost use Rattle.rows.specs.Next as next;
 ghost use Rattle.c_types.specs.Answers.{countIn, refusalAt, refusalIn, answeredAs};
 ghost use Rattle.c_types.specs.Tables.{tableIn, tableOut, typeHanded, onTable, laidIn, newIn, cellIn, stepIn};
 ghost use Rattle.c_types.specs.Unknown.{refusalNumber};
@@ -154,21 +150,15 @@ pub fn no_value(refused: Refused) -> CellAnswer
     }
 }
 
-fn given_cell(value: ValueRef) -> CellAnswer
-    ensures { λ r. ⌜ r ≡ cellIn (gives (cellAs value)) ⌝ }
-{
-    CellAnswer {
-        refused: none(),
-        kind: value.kind(),
-        number: value.number(),
-    }
-}
-
 pub fn from_cell(answer: CellRead, table: TableParts) -> CellAnswer
     ensures { λ r. ⌜ r ≡ cellIn (onTable table (cellReadAs answer)) ⌝ }
 {
     match answer {
-        CellRead::Value(value) => given_cell(value),
+        CellRead::Value(value) => CellAnswer {
+            refused: none(),
+            kind: value.kind(),
+            number: value.number(),
+        },
         CellRead::Refused(why) => no_value(told_in(why, table)),
     }
 }
@@ -185,25 +175,19 @@ fn no_cell(refused: Refused, at: usize) -> StepAnswer
     }
 }
 
-fn another(value: ValueRef, at: usize) -> StepAnswer
-    ensures { λ r. ⌜ r ≡ stepIn (gives (next.another (cellAs value)), at) ⌝ }
-{
-    StepAnswer {
-        refused: none(),
-        at,
-        found: true,
-        kind: value.kind(),
-        number: value.number(),
-    }
-}
-
 pub fn from_step(step: Step, table: TableParts) -> StepAnswer
     ensures { λ r. ⌜ r ≡ stepIn (answeredAs (onTable table) (stepAs step)) ⌝ }
 {
     let cell = step.cell;
     let at = step.at;
     match cell {
-        NextCell::Cell(value) => another(value, at),
+        NextCell::Cell(value) => StepAnswer {
+            refused: none(),
+            at,
+            found: true,
+            kind: value.kind(),
+            number: value.number(),
+        },
         NextCell::End => no_cell(none(), at),
         NextCell::Refused(why) => no_cell(told_in(why, table), at),
     }

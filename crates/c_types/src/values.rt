@@ -1,16 +1,13 @@
 // Values, and the answers of the calls that hold one.
 use crate::answers::CellAnswer;
 use crate::answers::CreateAnswer;
-use crate::answers::Pool;
 use crate::answers::PoolAnswer;
 use crate::answers::Refused;
 use crate::answers::is_unknown;
 use crate::answers::none;
 use crate::answers::told;
 use crate::answers::unknown_kind;
-use crate::pools::given_pool;
 use crate::pools::no_pool;
-use crate::pools::state_out;
 use crate::tables::no_value;
 use cell::Value;
 use cell::ValueRef;
@@ -21,11 +18,11 @@ use stringpool::StringPool;
 use stringpool::StringRef;
 ghost use mathlib.Core.Path.{_≡_};
 ghost use Rattle.common.specs.Answers.{gives, nowhere};
-ghost use Rattle.cell.specs.Kinds.{refKind, refNumber, valueKind, valueNumber};
+ghost use Rattle.cell.specs.Kinds.{valueKind, valueNumber};
 ghost use Rattle.pool_values.specs.Pooled.{createdAs, shownAs};
 ghost use lib.IntN.{pos};
 ghost use Rattle.stringpool.specs.Pool.{pooledAs};
-ghost use Rattle.c_types.specs.Pools.{poolIn, poolOut, noPool};
+ghost use Rattle.c_types.specs.Pools.{poolIn, noPool};
 ghost use Rattle.c_types.specs.Tables.{cellIn};
 ghost use Rattle.c_types.specs.Unknown.{onKind};
 ghost use Rattle.c_types.specs.Values.{valueIn, plainIn, createdIn};
@@ -62,24 +59,13 @@ pub fn plain_in(kind: u8, number: i32) -> Value
     Value::Binary
 }
 
-fn created(value: ValueRef, pool: StringPool) -> CreateAnswer
-    ensures { λ r. ⌜ r ≡ createdIn (gives ((refKind value, refNumber value), pool)) ⌝ }
-{
-    CreateAnswer {
-        refused: none(),
-        pool: state_out(pool),
-        kind: value.kind(),
-        number: value.number(),
-    }
-}
-
 // A refusal, and no value or pool beside it.
 fn not_created(refused: Refused) -> CreateAnswer
-    ensures { λ r. ⌜ r ≡ record { refused = refused; pool = poolOut noPool; kind = 0; number = pos 0 } ⌝ }
+    ensures { λ r. ⌜ r ≡ record { refused = refused; pool = noPool; kind = 0; number = pos 0 } ⌝ }
 {
     CreateAnswer {
         refused,
-        pool: Pool {
+        pool: StringPool {
             num_strings: 0,
             codepage: 0,
             long_string_refs: false,
@@ -97,7 +83,12 @@ pub fn from_created(answer: Created, kind: u8) -> CreateAnswer
             if is_unknown(kind) {
                 return not_created(unknown_kind());
             }
-            created(value, pool)
+            CreateAnswer {
+                refused: none(),
+                pool,
+                kind: value.kind(),
+                number: value.number(),
+            }
         }
         Created::Refused(why) => not_created(told(why)),
     }
@@ -111,7 +102,10 @@ pub fn from_removed(answer: Pooled, kind: u8) -> PoolAnswer
             if is_unknown(kind) {
                 return no_pool(unknown_kind());
             }
-            given_pool(pool)
+            PoolAnswer {
+                refused: none(),
+                pool,
+            }
         }
         Pooled::Refused(why) => no_pool(told(why)),
     }

@@ -1,14 +1,6 @@
 -- What a call answers, as C has it, where the call was handed what was made of C's arguments.
 use mathlib.Core.Path.{_≡_, ap, ap₂, _∙_}
-use lib.IntN.{ℤ}
-use mir.Syntax.{w32}
-use mir.Val.{SFits, toZ, ofZ}
-use mir.ValLaws.{toZ-ofZ}
 use Rattle.c_types.specs.Answers.{answeredAs}
-
--- a number passes through 32 bits on its way
-pub back : (z : ℤ) → SFits w32 z → toZ w32 (ofZ w32 z) ≡ z
-back z fits = toZ-ofZ w32 z fits
 
 pub says : {A C S : Type 0} (f : A → C) (call : S → A) {r : C} {x : A} {s t : S} → r ≡ f x → s ≡ t → x ≡ call s → r ≡ f (call t)
 says f call made same called = made ∙ ap f (called ∙ ap call same)
@@ -22,7 +14,3 @@ hands {C = C} f {w = w} made called = ap (λ (k : C). (k, w)) made ∙ ap (answe
 
 pub hands-on : {A C W S : Type 0} (f : A → C) (call : S → A × W) {r : C} {x : A} {w : W} {s t : S} → r ≡ f x → s ≡ t → (x, w) ≡ call s → (r, w) ≡ answeredAs f (call t)
 hands-on f call made same called = hands f made (called ∙ ap call same)
-
-pub hands-both : {A C W S T : Type 0} (f : A → C) (call : S → T → A × W) {r : C} {x : A} {w : W} {s t : S} {u v : T} → r ≡ f x → s ≡ t → u ≡ v → (x, w) ≡ call s u
-    → (r, w) ≡ answeredAs f (call t v)
-hands-both f call made same too called = hands f made (called ∙ ap₂ call same too)

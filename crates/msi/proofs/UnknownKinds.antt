@@ -25,7 +25,7 @@ use Rattle.c_types.specs.Unknown.{onKind}
 use Rattle.c_types.specs.Values.{valueIn, plainIn}
 use Rattle.c_types.specs.declared.answers.Count.{Count}
 use Rattle.msi.proofs.Gets.{written}
-use Rattle.msi.proofs.Handed.{hands-both}
+use Rattle.msi.proofs.Handed.{hands-on}
 
 -- 16 takes the place of what was given, and the rooms are as they were
 refused-kept : {A W : Type 0} (kind : ℕ) (w : W) (a : Answer (A × W)) → (unknown kind ≡ true → outcome w a .1 ≡ w)
@@ -41,10 +41,10 @@ refused-kept {A} {W} kind w (refused n at) kept = go (unknown kind)
     go true = refl
     go false = refl
 
-pub hands-kind : {A C W S T : Type 0} (f : Answer A → C) (kind : ℕ) (was : W) (call : S → T → Answer (A × W)) {r : C} {x : Answer A} {w : W} {s t : S} {u v : T} → s ≡ t → u ≡ v
-    → (unknown kind ≡ true → outcome was (call t v) .1 ≡ was) → r ≡ f (onKind nowhere kind x) → (x, w) ≡ outcome was (call s u) → (r, w) ≡ answeredAs f (outcome was (onKind nowhere kind (call t v)))
-hands-kind {A} f kind was call same too kept made called =
-    hands-both (λ (y : Answer A). f (onKind nowhere kind y)) (λ s u. outcome was (call s u)) made same too called ∙ ap (answeredAs f) (refused-kept kind was (call _ _) kept)
+pub hands-kind : {A C W S : Type 0} (f : Answer A → C) (kind : ℕ) (was : W) (call : S → Answer (A × W)) {r : C} {x : Answer A} {w : W} {s t : S} → s ≡ t
+    → (unknown kind ≡ true → outcome was (call t) .1 ≡ was) → r ≡ f (onKind nowhere kind x) → (x, w) ≡ outcome was (call s) → (r, w) ≡ answeredAs f (outcome was (onKind nowhere kind (call t)))
+hands-kind {A} f kind was call same kept made called =
+    hands-on (λ (y : Answer A). f (onKind nowhere kind y)) (λ s. outcome was (call s)) made same called ∙ ap (answeredAs f) (refused-kept kind was (call _) kept)
 
 -- an unknown kind is judged as Binary is, which leaves the rooms
 above : (kind k : ℕ) → unknown kind ≡ true → k < 4 → kind ≡ k → ⊥

@@ -1,6 +1,5 @@
 // The string pool. Its state is handed in and, where a call changes it, handed out; its rooms are lent to each call.
 use c_types::answers::Count;
-use c_types::answers::Pool;
 use c_types::answers::PoolAnswer;
 use c_types::answers::Reference;
 use c_types::answers::Refused;
@@ -13,13 +12,12 @@ use c_types::pools::from_pooled;
 use c_types::pools::from_showable;
 use c_types::pools::from_taken;
 use c_types::pools::from_written;
-use c_types::pools::state;
 use common::Refusal;
 use stringpool::Showable;
 use stringpool::StringPool;
 use stringpool::StringRef;
 ghost use mathlib.Core.Path.{_≡_};
-ghost use Rattle.common.specs.Answers.{nowhere, outcome, writtenTo};
+ghost use Rattle.common.specs.Answers.{nowhere, outcome};
 ghost use Rattle.stringpool.specs.Pool.{rooms};
 ghost use Rattle.common.specs.Refs.{reference};
 ghost use Rattle.stringpool.specs.Load.{loadOutcome};
@@ -27,9 +25,9 @@ ghost use Rattle.stringpool.specs.Pages.{newAnswer, setPageAnswer};
 ghost use Rattle.stringpool.specs.Show.{showAnswer, refcountAnswer};
 ghost use Rattle.stringpool.specs.Take.{takeOutcome, firstFreeOrEqual};
 ghost use Rattle.stringpool.specs.Drop.{dropOutcome};
-ghost use Rattle.stringpool.specs.Write.{writeOutcome, poolBytes, dataBytes};
+ghost use Rattle.stringpool.specs.Write.{writeOutcome, writeAnswer, poolBytes, dataBytes};
 ghost use Rattle.c_types.specs.Answers.{refusalIn, countIn, answeredAs};
-ghost use Rattle.c_types.specs.Pools.{stateIn, poolIn, takenIn, referenceIn};
+ghost use Rattle.c_types.specs.Pools.{poolIn, takenIn, referenceIn};
 ghost use Rattle.msi.specs.Texts.{copiedOutcome};
 
 #[no_mangle]
@@ -62,50 +60,47 @@ pub extern "C" fn strandroost_load(
 
 #[no_mangle]
 pub extern "C" fn strandroost_set_codepage(
-    pool: Pool,
+    pool: StringPool,
     lengths: &[u32],
     counts: &[u16],
     text: &[u8],
     codepage: u32,
 ) -> PoolAnswer
-    ensures { λ r. ⌜ r ≡ poolIn (setPageAnswer (stateIn pool) (rooms (now (lengths .entry)) (now (counts .entry)) (now (text .entry))) codepage) ⌝ }
+    ensures { λ r. ⌜ r ≡ poolIn (setPageAnswer pool (rooms (now (lengths .entry)) (now (counts .entry)) (now (text .entry))) codepage) ⌝ }
 {
-    let was = state(pool);
-    from_pooled(was.set_codepage(lengths, counts, text, codepage))
+    from_pooled(pool.set_codepage(lengths, counts, text, codepage))
 }
 
 #[no_mangle]
 pub extern "C" fn strandroost_refcount(
-    pool: Pool,
+    pool: StringPool,
     lengths: &[u32],
     counts: &[u16],
     text: &[u8],
     number: i32,
 ) -> Count
-    ensures { λ r. ⌜ r ≡ countIn (refcountAnswer (stateIn pool) (rooms (now (lengths .entry)) (now (counts .entry)) (now (text .entry))) number) ⌝ }
+    ensures { λ r. ⌜ r ≡ countIn (refcountAnswer pool (rooms (now (lengths .entry)) (now (counts .entry)) (now (text .entry))) number) ⌝ }
 {
-    let was = state(pool);
-    from_counted(was.refcount(lengths, counts, text, number))
+    from_counted(pool.refcount(lengths, counts, text, number))
 }
 
 // The refusal of showing a reference, or none.
 #[no_mangle]
 pub extern "C" fn strandroost_get_refusal(
-    pool: Pool,
+    pool: StringPool,
     lengths: &[u32],
     counts: &[u16],
     text: &[u8],
     number: i32,
 ) -> Refused
-    ensures { λ r. ⌜ r ≡ refusalIn (showAnswer (stateIn pool) (rooms (now (lengths .entry)) (now (counts .entry)) (now (text .entry))) number) ⌝ }
+    ensures { λ r. ⌜ r ≡ refusalIn (showAnswer pool (rooms (now (lengths .entry)) (now (counts .entry)) (now (text .entry))) number) ⌝ }
 {
-    let was = state(pool);
-    from_showable(was.get_refusal(lengths, counts, text, number))
+    from_showable(pool.get_refusal(lengths, counts, text, number))
 }
 
 // A part of the text room, copied to the output whole or not at all.
 pub(crate) fn copied(part: &[u8], out: &mut [u8]) -> Count
-    ensures { λ r. ⌜ (r, now (out .exit)) ≡ answeredAs countIn (outcome (now (out .entry)) (writtenTo (now (out .entry)) (now (part .entry)))) ⌝ }
+    ensures { λ r. ⌜ (r, now (out .exit)) ≡ answeredAs countIn (outcome (now (out .entry)) (writeAnswer (now (part .entry)) (now (out .entry)))) ⌝ }
 {
     if out.len() < part.len() {
         return refused_count(Refusal::OutputRoom);
@@ -120,81 +115,76 @@ pub(crate) fn copied(part: &[u8], out: &mut [u8]) -> Count
 // The text of a reference. An exported call cannot hand out a part of a lent room, so the text is copied to an output.
 #[no_mangle]
 pub extern "C" fn strandroost_get(
-    pool: Pool,
+    pool: StringPool,
     lengths: &[u32],
     counts: &[u16],
     text: &[u8],
     number: i32,
     out: &mut [u8],
 ) -> Count
-    ensures { λ r. ⌜ (r, now (out .exit)) ≡ answeredAs countIn (copiedOutcome (showAnswer (stateIn pool) (rooms (now (lengths .entry)) (now (counts .entry)) (now (text .entry))) number) (now (out .entry))) ⌝ }
+    ensures { λ r. ⌜ (r, now (out .exit)) ≡ answeredAs countIn (copiedOutcome (showAnswer pool (rooms (now (lengths .entry)) (now (counts .entry)) (now (text .entry))) number) (now (out .entry))) ⌝ }
 {
-    let was = state(pool);
-    let shown = was.get_refusal(lengths, counts, text, number);
+    let shown = pool.get_refusal(lengths, counts, text, number);
     match shown {
         Showable::Refused(why) => refused_count(why),
-        Showable::Yes => copied(was.get(lengths, counts, text, number), out),
+        Showable::Yes => copied(pool.get(lengths, counts, text, number), out),
     }
 }
 
 #[no_mangle]
 pub extern "C" fn strandroost_incref(
-    pool: Pool,
+    pool: StringPool,
     lengths: &mut [u32],
     counts: &mut [u16],
     text: &mut [u8],
     new: &[u8],
 ) -> TakeAnswer
     ensures { λ r. ⌜ (r, rooms (now (lengths .exit)) (now (counts .exit)) (now (text .exit)))
-        ≡ answeredAs takenIn (takeOutcome firstFreeOrEqual (stateIn pool) (rooms (now (lengths .entry)) (now (counts .entry)) (now (text .entry))) (now (new .entry))) ⌝ }
+        ≡ answeredAs takenIn (takeOutcome firstFreeOrEqual pool (rooms (now (lengths .entry)) (now (counts .entry)) (now (text .entry))) (now (new .entry))) ⌝ }
 {
-    let was = state(pool);
-    from_taken(was.incref(lengths, counts, text, new))
+    from_taken(pool.incref(lengths, counts, text, new))
 }
 
 #[no_mangle]
 pub extern "C" fn strandroost_decref(
-    pool: Pool,
+    pool: StringPool,
     lengths: &mut [u32],
     counts: &mut [u16],
     text: &mut [u8],
     number: i32,
 ) -> PoolAnswer
     ensures { λ r. ⌜ (r, rooms (now (lengths .exit)) (now (counts .exit)) (now (text .exit)))
-        ≡ answeredAs poolIn (dropOutcome (stateIn pool) (rooms (now (lengths .entry)) (now (counts .entry)) (now (text .entry))) number) ⌝ }
+        ≡ answeredAs poolIn (dropOutcome pool (rooms (now (lengths .entry)) (now (counts .entry)) (now (text .entry))) number) ⌝ }
 {
-    let was = state(pool);
-    from_pooled(was.decref(lengths, counts, text, number))
+    from_pooled(pool.decref(lengths, counts, text, number))
 }
 
 #[no_mangle]
 pub extern "C" fn strandroost_write_pool(
-    pool: Pool,
+    pool: StringPool,
     lengths: &[u32],
     counts: &[u16],
     text: &[u8],
     out: &mut [u8],
 ) -> Count
     ensures { λ r. ⌜ (r, now (out .exit))
-        ≡ answeredAs countIn (writeOutcome (stateIn pool) (rooms (now (lengths .entry)) (now (counts .entry)) (now (text .entry)))
-        (poolBytes (stateIn pool) (rooms (now (lengths .entry)) (now (counts .entry)) (now (text .entry)))) (now (out .entry))) ⌝ }
+        ≡ answeredAs countIn (writeOutcome pool (rooms (now (lengths .entry)) (now (counts .entry)) (now (text .entry)))
+        (poolBytes pool (rooms (now (lengths .entry)) (now (counts .entry)) (now (text .entry)))) (now (out .entry))) ⌝ }
 {
-    let was = state(pool);
-    from_written(was.write_pool(lengths, counts, text, out))
+    from_written(pool.write_pool(lengths, counts, text, out))
 }
 
 #[no_mangle]
 pub extern "C" fn strandroost_write_data(
-    pool: Pool,
+    pool: StringPool,
     lengths: &[u32],
     counts: &[u16],
     text: &[u8],
     out: &mut [u8],
 ) -> Count
     ensures { λ r. ⌜ (r, now (out .exit))
-        ≡ answeredAs countIn (writeOutcome (stateIn pool) (rooms (now (lengths .entry)) (now (counts .entry)) (now (text .entry)))
-        (dataBytes (stateIn pool) (rooms (now (lengths .entry)) (now (counts .entry)) (now (text .entry)))) (now (out .entry))) ⌝ }
+        ≡ answeredAs countIn (writeOutcome pool (rooms (now (lengths .entry)) (now (counts .entry)) (now (text .entry)))
+        (dataBytes pool (rooms (now (lengths .entry)) (now (counts .entry)) (now (text .entry)))) (now (out .entry))) ⌝ }
 {
-    let was = state(pool);
-    from_written(was.write_data(lengths, counts, text, out))
+    from_written(pool.write_data(lengths, counts, text, out))
 }

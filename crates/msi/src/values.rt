@@ -3,23 +3,22 @@ use crate::pools::copied;
 use c_types::answers::CellAnswer;
 use c_types::answers::Count;
 use c_types::answers::CreateAnswer;
-use c_types::answers::Pool;
 use c_types::answers::PoolAnswer;
 use c_types::answers::is_unknown;
 use c_types::answers::refused_count;
 use c_types::answers::unknown_kind;
-use c_types::pools::state;
 use c_types::values::from_created;
 use c_types::values::from_removed;
 use c_types::values::from_shown;
 use c_types::values::plain_in;
 use c_types::values::value_in;
 use pool_values::Shown;
+use stringpool::StringPool;
 ghost use mathlib.Core.Path.{_≡_};
 ghost use Rattle.common.specs.Answers.{outcome};
 ghost use Rattle.stringpool.specs.Pool.{rooms};
 ghost use Rattle.c_types.specs.Answers.{countIn, answeredAs};
-ghost use Rattle.c_types.specs.Pools.{stateIn, poolIn};
+ghost use Rattle.c_types.specs.Pools.{poolIn};
 ghost use Rattle.c_types.specs.Tables.{cellIn};
 ghost use Rattle.c_types.specs.Values.{createBy, removeBy, shownBy, textBy, createdIn};
 ghost use Rattle.msi.specs.Texts.{copiedOutcome};
@@ -30,18 +29,17 @@ pub extern "C" fn strandroost_create(
     kind: u8,
     number: i32,
     new: &[u8],
-    pool: Pool,
+    pool: StringPool,
     lengths: &mut [u32],
     counts: &mut [u16],
     text: &mut [u8],
 ) -> CreateAnswer
     ensures { λ r. ⌜ (r, rooms (now (lengths .exit)) (now (counts .exit)) (now (text .exit)))
         ≡ answeredAs createdIn (outcome (rooms (now (lengths .entry)) (now (counts .entry)) (now (text .entry)))
-        (createBy kind number (now (new .entry)) (stateIn pool) (rooms (now (lengths .entry)) (now (counts .entry)) (now (text .entry))))) ⌝ }
+        (createBy kind number (now (new .entry)) pool (rooms (now (lengths .entry)) (now (counts .entry)) (now (text .entry))))) ⌝ }
 {
-    let was = state(pool);
     let value = plain_in(kind, number);
-    let answer = pool_values::create(value, new, was, lengths, counts, text);
+    let answer = pool_values::create(value, new, pool, lengths, counts, text);
     from_created(answer, kind)
 }
 
@@ -50,18 +48,17 @@ pub extern "C" fn strandroost_create(
 pub extern "C" fn strandroost_remove(
     kind: u8,
     number: i32,
-    pool: Pool,
+    pool: StringPool,
     lengths: &mut [u32],
     counts: &mut [u16],
     text: &mut [u8],
 ) -> PoolAnswer
     ensures { λ r. ⌜ (r, rooms (now (lengths .exit)) (now (counts .exit)) (now (text .exit)))
         ≡ answeredAs poolIn (outcome (rooms (now (lengths .entry)) (now (counts .entry)) (now (text .entry)))
-        (removeBy kind number (stateIn pool) (rooms (now (lengths .entry)) (now (counts .entry)) (now (text .entry))))) ⌝ }
+        (removeBy kind number pool (rooms (now (lengths .entry)) (now (counts .entry)) (now (text .entry))))) ⌝ }
 {
-    let was = state(pool);
     let value = value_in(kind, number);
-    let answer = pool_values::remove(value, was, lengths, counts, text);
+    let answer = pool_values::remove(value, pool, lengths, counts, text);
     from_removed(answer, kind)
 }
 
@@ -70,16 +67,15 @@ pub extern "C" fn strandroost_remove(
 pub extern "C" fn strandroost_to_value(
     kind: u8,
     number: i32,
-    pool: Pool,
+    pool: StringPool,
     lengths: &[u32],
     counts: &[u16],
     text: &[u8],
 ) -> CellAnswer
-    ensures { λ r. ⌜ r ≡ cellIn (shownBy kind number (stateIn pool) (rooms (now (lengths .entry)) (now (counts .entry)) (now (text .entry)))) ⌝ }
+    ensures { λ r. ⌜ r ≡ cellIn (shownBy kind number pool (rooms (now (lengths .entry)) (now (counts .entry)) (now (text .entry)))) ⌝ }
 {
-    let was = state(pool);
     let value = value_in(kind, number);
-    let answer = pool_values::to_value(value, was, lengths, counts, text);
+    let answer = pool_values::to_value(value, pool, lengths, counts, text);
     from_shown(answer, kind)
 }
 
@@ -88,18 +84,17 @@ pub extern "C" fn strandroost_to_value(
 pub extern "C" fn strandroost_to_text(
     kind: u8,
     number: i32,
-    pool: Pool,
+    pool: StringPool,
     lengths: &[u32],
     counts: &[u16],
     text: &[u8],
     out: &mut [u8],
 ) -> Count
     ensures { λ r. ⌜ (r, now (out .exit))
-        ≡ answeredAs countIn (copiedOutcome (textBy kind number (stateIn pool) (rooms (now (lengths .entry)) (now (counts .entry)) (now (text .entry)))) (now (out .entry))) ⌝ }
+        ≡ answeredAs countIn (copiedOutcome (textBy kind number pool (rooms (now (lengths .entry)) (now (counts .entry)) (now (text .entry)))) (now (out .entry))) ⌝ }
 {
-    let was = state(pool);
     let value = value_in(kind, number);
-    let shown = pool_values::to_value(value, was, lengths, counts, text);
+    let shown = pool_values::to_value(value, pool, lengths, counts, text);
     match shown {
         Shown::Refused(why) => refused_count(why),
         Shown::Value(_) => {
@@ -109,7 +104,10 @@ pub extern "C" fn strandroost_to_text(
                     value: 0,
                 };
             }
-            copied(pool_values::to_text(value, was, lengths, counts, text), out)
+            copied(
+                pool_values::to_text(value, pool, lengths, counts, text),
+                out,
+            )
         }
     }
 }

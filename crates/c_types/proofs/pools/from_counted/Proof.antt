@@ -12,4 +12,4 @@ from-counted-spec =
     (λ c. search needs)
     (λ c κs. search needs)
     (λ c. simp (c .none .ensures, c .before .before .answer .given .1))
-    (λ c. simp (c .told .ensures, c .before .before .answer2 .given .1)))
+    (λ c. simp (c .refused-count .ensures, c .before .before .answer2 .given .1)))

@@ -10,5 +10,6 @@ from-pooled-spec =
     (λ c κs. search needs)
     (λ c. search needs)
     (λ c κs. search needs)
-    (λ c. simp (c .given-pool .ensures, c .before .before .answer .given .1))
-    (λ c. simp (c .refused-pool .ensures, c .before .before .answer2 .given .1)))
+    (λ c κs. search needs)
+    (λ c. simp (c .none .ensures, c .before .before .answer .given .1))
+    (λ c. simp (c .no-pool .ensures, c .before .told .ensures, c .before .before .before .answer2 .given .1)))

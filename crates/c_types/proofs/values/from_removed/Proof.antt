@@ -11,7 +11,7 @@ returns : tie.Need-returns
 returns c = simp (c .no-pool .ensures, c .before .unknown-kind .ensures, c .before .before .before .before .before .answer .given .1, sym (c .before .before .before .is-unknown .ensures) ∙ c .before .before .if1 .taken)
 
 returns-2 : tie.Need-returns-2
-returns-2 c = simp (c .given-pool .ensures, c .before .before .before .before .answer .given .1, sym (c .before .before .is-unknown .ensures) ∙ c .before .if1 .left)
+returns-2 c = simp (c .none .ensures, c .before .before .before .before .answer .given .1, sym (c .before .before .is-unknown .ensures) ∙ c .before .if1 .left)
 
 returns-3 : tie.Need-returns-3
 returns-3 c = kept-refused poolIn nowhere (c .before .before .before .before .before .args .kind) (ap pooledAs (c .before .before .before .answer2 .given .1)) (simp (c .no-pool2 .ensures, c .before .told .ensures))

@@ -1,9 +1,4 @@
-use mathlib.Core.Path.{_≡_}
-use lib.IntN.{ℤ}
-use mir.Syntax.{w32}
-use mir.Val.{SFits, toZ, ofZ}
-use mir.ValLaws.{toZ-ofZ}
-use borrow.Author.Needs.{needs}
+use Rattle.c_types.proofs.Numbers.{back}
 use borrow.Author.Tests.{eq-eqb, ne-eqb}
 use Rattle.c_types.proofs.values.plain_in.Statement.{statement}
 use Rattle.c_types.proofs.values.plain_in.Tie as tie
@@ -12,11 +7,7 @@ returns : tie.Need-returns
 returns c = simp (eq-eqb _ _ (c .if1 .taken))
 
 returns-2 : tie.Need-returns-2
-returns-2 c =
-    let z : ℤ = c .before .before .args .number in
-    let z-fits : SFits w32 z = search needs in
-    let z-back : toZ w32 (ofZ w32 z) ≡ z = toZ-ofZ w32 z z-fits in
-    simp (ne-eqb _ _ (c .before .if1 .left), eq-eqb _ _ (c .if2 .taken), z-back)
+returns-2 c = simp (ne-eqb _ _ (c .before .if1 .left), eq-eqb _ _ (c .if2 .taken), back (c .before .before .args .number) (c .before .before .fits .number))
 
 returns-3 : tie.Need-returns-3
 returns-3 c = simp (ne-eqb _ _ (c .before .before .if1 .left), ne-eqb _ _ (c .before .if2 .left), eq-eqb _ _ (c .if3 .taken))

@@ -1,18 +1,10 @@
-use mathlib.Core.Path.{_≡_}
-use lib.IntN.{ℤ}
-use mir.Syntax.{w32}
-use mir.Val.{SFits, toZ, ofZ}
-use mir.ValLaws.{toZ-ofZ}
+use Rattle.c_types.proofs.Numbers.{back}
 use borrow.Author.Needs.{needs}
 use Rattle.c_types.proofs.values.shown_value.Statement.{statement}
 use Rattle.c_types.proofs.values.shown_value.Tie as tie
 
 returns-2 : tie.Need-returns-2
-returns-2 c =
-    let z : ℤ = c .before .value .given .0 .0 in
-    let z-fits : SFits w32 z = search needs in
-    let z-back : toZ w32 (ofZ w32 z) ≡ z = toZ-ofZ w32 z z-fits in
-    simp (c .before .before .before .none .ensures, c .before .value .given .1, z-back)
+returns-2 c = simp (c .before .before .before .none .ensures, c .before .value .given .1, back (c .before .value .given .0 .0) (search needs))
 
 pub shown-value-spec : {M : Type 1} → statement M
 shown-value-spec =

@@ -1,9 +1,5 @@
-use borrow.Author.Needs.{needs}
+use Rattle.c_types.proofs.Numbers.{back}
 use borrow.Author.Tests.{eq-eqb, ne-eqb}
-use mir.ValLaws.{toZ-ofZ}
-use mir.Val.{SFits, toZ, ofZ}
-use mir.Syntax.{w32}
-use mathlib.Core.Path.{_≡_}
 use Rattle.c_types.proofs.values.value_in.Statement.{statement}
 use Rattle.c_types.proofs.values.value_in.Tie as tie
 
@@ -11,16 +7,10 @@ returns : tie.Need-returns
 returns c = simp (eq-eqb _ _ (c .if1 .taken))
 
 returns-2 : tie.Need-returns-2
-returns-2 c =
-    let number-fits : SFits w32 (c .before .before .args .number) = search needs in
-    let number-back : toZ w32 (ofZ w32 (c .before .before .args .number)) ≡ c .before .before .args .number = toZ-ofZ w32 (c .before .before .args .number) number-fits in
-    simp (ne-eqb _ _ (c .before .if1 .left), eq-eqb _ _ (c .if2 .taken), number-back)
+returns-2 c = simp (ne-eqb _ _ (c .before .if1 .left), eq-eqb _ _ (c .if2 .taken), back (c .before .before .args .number) (c .before .before .fits .number))
 
 returns-3 : tie.Need-returns-3
-returns-3 c =
-    let number-fits : SFits w32 (c .before .before .before .args .number) = search needs in
-    let number-back : toZ w32 (ofZ w32 (c .before .before .before .args .number)) ≡ c .before .before .before .args .number = toZ-ofZ w32 (c .before .before .before .args .number) number-fits in
-    simp (ne-eqb _ _ (c .before .before .if1 .left), ne-eqb _ _ (c .before .if2 .left), eq-eqb _ _ (c .if3 .taken), number-back)
+returns-3 c = simp (ne-eqb _ _ (c .before .before .if1 .left), ne-eqb _ _ (c .before .if2 .left), eq-eqb _ _ (c .if3 .taken), back (c .before .before .before .args .number) (c .before .before .before .fits .number))
 
 returns-4 : tie.Need-returns-4
 returns-4 c = simp (ne-eqb _ _ (c .before .before .if1 .left), ne-eqb _ _ (c .before .if2 .left), ne-eqb _ _ (c .if3 .left))

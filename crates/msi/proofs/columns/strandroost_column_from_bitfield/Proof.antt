@@ -2,7 +2,8 @@ use lib.IntN.{ℤ}
 use Rattle.column.specs.declared.column.ColumnBuilder.{ColumnBuilder}
 use Rattle.column.specs.Columns.{bitsColumn}
 use Rattle.c_types.specs.Columns.{columnIn}
-use Rattle.msi.proofs.Handed.{back, says-both}
+use Rattle.c_types.proofs.Numbers.{back}
+use Rattle.msi.proofs.Handed.{says-both}
 use borrow.Author.Needs.{needs}
 use Rattle.msi.proofs.columns.strandroost_column_from_bitfield.Statement.{statement}
 use Rattle.msi.proofs.columns.strandroost_column_from_bitfield.Tie as tie

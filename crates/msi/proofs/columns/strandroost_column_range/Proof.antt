@@ -2,7 +2,8 @@ use mathlib.Core.Path.{ap₂, _∙_}
 use Rattle.column.specs.declared.column.ColumnBuilder.{ColumnBuilder}
 use Rattle.column.specs.Columns.{withRange}
 use Rattle.c_types.specs.Columns.{builderOut}
-use Rattle.msi.proofs.Handed.{back, says}
+use Rattle.c_types.proofs.Numbers.{back}
+use Rattle.msi.proofs.Handed.{says}
 use borrow.Author.Needs.{needs}
 use Rattle.msi.proofs.columns.strandroost_column_range.Statement.{statement}
 use Rattle.msi.proofs.columns.strandroost_column_range.Tie as tie

@@ -9,7 +9,8 @@ use Rattle.c_types.specs.Answers.{flagIn}
 use Rattle.c_types.specs.Columns.{onColumn}
 use Rattle.c_types.specs.Unknown.{onKind}
 use Rattle.c_types.specs.Values.{plainIn}
-use Rattle.msi.proofs.Handed.{back, says-both}
+use Rattle.c_types.proofs.Numbers.{back}
+use Rattle.msi.proofs.Handed.{says-both}
 use borrow.Author.Needs.{needs}
 use Rattle.msi.proofs.columns.strandroost_is_valid_value.Statement.{statement}
 use Rattle.msi.proofs.columns.strandroost_is_valid_value.Tie as tie

@@ -1,25 +1,23 @@
-use lib.IntN.{ℤ}
 use mathlib.Core.Path.{_∙_}
+use lib.IntN.{ℤ}
 use denote.Ref.{now}
 use Rattle.stringpool.specs.Pool.{rooms}
-use Rattle.stringpool.specs.declared.pool.StringPool.{StringPool}
-use Rattle.stringpool.specs.Show.{showAnswer}
 use Rattle.common.specs.Answers.{refusalOf}
+use Rattle.stringpool.specs.Show.{showAnswer}
 use Rattle.c_types.specs.Answers.{refusalIn}
-use Rattle.c_types.specs.Pools.{stateIn}
+use Rattle.c_types.proofs.Numbers.{back}
 use Rattle.msi.proofs.Gets.{refusal-kept}
-use Rattle.msi.proofs.Handed.{back, says-both}
+use Rattle.msi.proofs.Handed.{says}
 use borrow.Author.Needs.{needs}
 use Rattle.msi.proofs.pools.strandroost_get_refusal.Statement.{statement}
 use Rattle.msi.proofs.pools.strandroost_get_refusal.Tie as tie
 
 returns : tie.Need-returns
 returns c =
-    let s = c .before .before .before .before .before .before in
+    let s = c .before .before .before .before .before in
     let w = rooms (now (s .args .lengths)) (now (s .args .counts)) (now (s .args .text)) in
-    says-both refusalIn (λ (p : StringPool) (k : ℤ). refusalOf (showAnswer p w k)) (c .from-showable .ensures) (c .before .before .state .ensures) (back (s .args .number) (s .fits .number)) (c .before .get-refusal .ensures)
-    ∙ refusal-kept (showAnswer (stateIn (s .args .pool)) w (s .args .number))
+    says refusalIn (λ (k : ℤ). refusalOf (showAnswer (s .args .pool) w k)) (c .from-showable .ensures) (back (s .args .number) (s .fits .number)) (c .before .get-refusal .ensures) ∙ refusal-kept (showAnswer (s .args .pool) w (s .args .number))
 
 pub strandroost-get-refusal-spec : {M : Type 1} → statement M
 strandroost-get-refusal-spec =
-    tie.close (tie.spec (λ c κs. search needs) (λ c κs. search needs) (λ c κs. search needs) returns)
+    tie.close (tie.spec (λ c κs. search needs) (λ c κs. search needs) returns)

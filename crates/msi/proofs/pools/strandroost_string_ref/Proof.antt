@@ -1,7 +1,8 @@
 use Rattle.common.specs.Answers.{nowhere}
 use Rattle.common.specs.Refs.{reference}
 use Rattle.c_types.specs.Pools.{referenceIn}
-use Rattle.msi.proofs.Handed.{back, says}
+use Rattle.c_types.proofs.Numbers.{back}
+use Rattle.msi.proofs.Handed.{says}
 use borrow.Author.Needs.{needs}
 use Rattle.msi.proofs.pools.strandroost_string_ref.Statement.{statement}
 use Rattle.msi.proofs.pools.strandroost_string_ref.Tie as tie

@@ -5,9 +5,9 @@ use Rattle.msi.proofs.pools.strandroost_write_data.Statement.{statement
 use Rattle.msi.proofs.pools.strandroost_write_data.Tie as tie
 
 returns : tie.Need-returns
-returns c = hands countIn (c .from-written .ensures) (rw (c .before .before .before .before .before .state .ensures) at (c .before .before .before .write-data .ensures))
+returns c = hands countIn (c .from-written .ensures) (c .before .before .before .write-data .ensures)
 
 pub strandroost-write-data-spec : {M : Type 1} → statement M
 strandroost-write-data-spec =
     tie.close
-    (tie.spec (λ c κs. search needs) (λ c κs. search needs) (λ c κs. search needs) (λ c. search needs) returns)
+    (tie.spec (λ c κs. search needs) (λ c κs. search needs) (λ c. search needs) returns)

@@ -1,4 +1,4 @@
-use mathlib.Core.Path.{_≡_, sym, ap, ap₂, _∙_}
+use mathlib.Core.Path.{_≡_, sym, ap, _∙_}
 use mathlib.Core.List.{List}
 use Prim.Native.Nat.{ℕ}
 use lib.IntN.{ℤ}
@@ -6,7 +6,6 @@ use denote.Ref.{now}
 use Rattle.common.specs.Answers.{Answer, nowhere, onGiven, writtenTo}
 use Rattle.stringpool.specs.Pool.{Rooms, rooms}
 use Rattle.stringpool.specs.declared.pool.StringPool.{StringPool}
-use Rattle.c_types.specs.Pools.{stateIn}
 use Rattle.cell.specs.declared.value.ValueRef.{ValueRef}
 use Rattle.cell.specs.Kinds.{refKind, refNumber}
 use Rattle.pool_values.specs.Pooled.{shownAnswer, textAnswer, shownAs}
@@ -14,7 +13,7 @@ use Rattle.stringpool.specs.Show.{orEmpty}
 use Rattle.c_types.specs.Unknown.{onKind}
 use Rattle.c_types.specs.Values.{valueIn}
 use Rattle.msi.proofs.Gets.{written, got-refused, got-given, refusal-said, given-said}
-use Rattle.msi.proofs.Handed.{back}
+use Rattle.c_types.proofs.Numbers.{back}
 use Rattle.msi.proofs.UnknownKinds.{kind-refused, kind-known, text-unknown}
 use borrow.Author.Needs.{needs}
 use Rattle.msi.proofs.values.strandroost_to_text.Statement.{statement}
@@ -28,20 +27,20 @@ Value s = valueIn (s .args .kind) (s .args .number)
 
 -- the text that the value shows, whatever its kind
 abbrev Text : tie.Start → Answer (List ℕ)
-Text s = textAnswer (refKind (Value s)) (refNumber (Value s)) (stateIn (s .args .pool)) (Lent s)
+Text s = textAnswer (refKind (Value s)) (refNumber (Value s)) (s .args .pool) (Lent s)
 
 -- where the call began
 abbrev Begun : tie.After-value-in → tie.Start
-Begun c = c .before .before .before .before .before .before
+Begun c = c .before .before .before .before .before
 
 value-is : (c : tie.After-value-in) → c .value-in .result ≡ Value (Begun c)
 value-is c = c .value-in .ensures ∙ ap (valueIn (Begun c .args .kind)) (back (Begun c .args .number) (Begun c .fits .number))
 
--- what holds of the call on the value and the state as they were made holds of what C handed over
+-- what holds of the call on the value as it was made holds of what C handed over
 asked : {A B : Type 0} (call : ℕ → ℤ → StringPool → Rooms → Answer A) (f : Answer A → B) (c : tie.After-value-in) {x : B}
-    → x ≡ f (call (refKind (c .value-in .result)) (refNumber (c .value-in .result)) (c .before .state .result) (Lent (Begun c)))
-    → x ≡ f (call (refKind (Value (Begun c))) (refNumber (Value (Begun c))) (stateIn (Begun c .args .pool)) (Lent (Begun c)))
-asked call f c e = e ∙ ap₂ (λ (v : ValueRef) (p : StringPool). f (call (refKind v) (refNumber v) p (Lent (Begun c)))) (value-is c) (c .before .state .ensures)
+    → x ≡ f (call (refKind (c .value-in .result)) (refNumber (c .value-in .result)) (Begun c .args .pool) (Lent (Begun c)))
+    → x ≡ f (call (refKind (Value (Begun c))) (refNumber (Value (Begun c))) (Begun c .args .pool) (Lent (Begun c)))
+asked call f c e = e ∙ ap (λ (v : ValueRef). f (call (refKind v) (refNumber v) (Begun c .args .pool) (Lent (Begun c)))) (value-is c)
 
 returns : tie.Need-returns
 returns c =
@@ -73,7 +72,6 @@ pub strandroost-to-text-spec : {M : Type 1} → statement M
 strandroost-to-text-spec =
     tie.close
     (tie.spec
-    (λ c κs. search needs)
     (λ c κs. search needs)
     (λ c κs. search needs)
     (λ c. search needs)

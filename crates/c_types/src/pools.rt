@@ -19,7 +19,7 @@ ghost use Rattle.common.specs.Refs.{madeAs};
 ghost use Rattle.stringpool.specs.Show.{refcountAs, showableAs};
 ghost use Rattle.stringpool.specs.Take.{takenAs};
 ghost use Rattle.stringpool.specs.Pool.{pooledAs};
-ghost use Rattle.little_endian.specs.Numbers.{writtenAs};
+ghost use Rattle.stringpool.specs.Write.{writtenAs};
 ghost use Rattle.c_types.specs.Answers.{refusalIn, countIn};
 ghost use Rattle.c_types.specs.Pools.{noPool, poolIn, takenIn, referenceIn};
 

@@ -17,7 +17,7 @@ use stringpool::Showable;
 use stringpool::StringPool;
 use stringpool::StringRef;
 ghost use mathlib.Core.Path.{_≡_};
-ghost use Rattle.common.specs.Answers.{nowhere, outcome};
+ghost use Rattle.common.specs.Answers.{nowhere, outcome, writtenTo};
 ghost use Rattle.stringpool.specs.Pool.{rooms};
 ghost use Rattle.common.specs.Refs.{reference};
 ghost use Rattle.stringpool.specs.Load.{loadOutcome};
@@ -25,7 +25,7 @@ ghost use Rattle.stringpool.specs.Pages.{newAnswer, setPageAnswer};
 ghost use Rattle.stringpool.specs.Show.{showAnswer, refcountAnswer};
 ghost use Rattle.stringpool.specs.Take.{takeOutcome, firstFreeOrEqual};
 ghost use Rattle.stringpool.specs.Drop.{dropOutcome};
-ghost use Rattle.stringpool.specs.Write.{writeOutcome, writeAnswer, poolBytes, dataBytes};
+ghost use Rattle.stringpool.specs.Write.{writeOutcome, poolBytes, dataBytes};
 ghost use Rattle.c_types.specs.Answers.{refusalIn, countIn, answeredAs};
 ghost use Rattle.c_types.specs.Pools.{poolIn, takenIn, referenceIn};
 ghost use Rattle.msi.specs.Texts.{copiedOutcome};
@@ -100,7 +100,7 @@ pub extern "C" fn strandroost_get_refusal(
 
 // A part of the text room, copied to the output whole or not at all.
 pub(crate) fn copied(part: &[u8], out: &mut [u8]) -> Count
-    ensures { λ r. ⌜ (r, now (out .exit)) ≡ answeredAs countIn (outcome (now (out .entry)) (writeAnswer (now (part .entry)) (now (out .entry)))) ⌝ }
+    ensures { λ r. ⌜ (r, now (out .exit)) ≡ answeredAs countIn (outcome (now (out .entry)) (writtenTo (now (out .entry)) (now (part .entry)))) ⌝ }
 {
     if out.len() < part.len() {
         return refused_count(Refusal::OutputRoom);

@@ -4,3 +4,4 @@ pub mod Forms
 pub mod Halves
 pub mod Numbers
 pub mod Points
+pub mod ReadBack

@@ -1,12 +1,18 @@
 -- Document 01, "Cells": what a column stores for a cell, and what a stored number reads as, over the column's type and width.
 use Prim.Native.Nat.{ℕ}
-use mathlib.Core.Bool.{Bool, not, _&&_}
+use mathlib.Core.Bool.{Bool, true, false, not, _&&_}
 use lib.IntN.{ℤ, pos, natAbs, _+ℤ_, _-ℤ_}
 use Rattle.common.specs.Choice.{if_then_else_, _≤?_, _=?_, _<ℤ?_}
 use Rattle.common.specs.Answers.{Place, Answer, gives, refused, onGiven}
 use Rattle.common.specs.Refs.{reference}
 use Rattle.cell.specs.declared.form.ColumnType.{ColumnType}
 use Rattle.cell.specs.declared.form.ColumnType.the-variants.{Int16, Int32, Str, Binary}
+
+abbrev pub isBinary : ColumnType → Bool
+isBinary Int16 = false
+isBinary Int32 = false
+isBinary (Str max) = false
+isBinary Binary = true
 
 -- Int16 has two bytes, Int32 four, Str two, or three where references are long, Binary two
 abbrev pub width : ColumnType → Bool → ℕ

@@ -11,7 +11,7 @@ ghost use Rattle.little_endian.specs.Numbers.{numberAt};
 ghost use Rattle.cell.specs.Kinds.{cellAs};
 ghost use Rattle.cell.specs.Handed.{handedKind, handedNumber};
 ghost use Rattle.cell.specs.Cells.{width, stored, unstored, integerCell, referenceCell, binaryCell};
-ghost use Rattle.cell.specs.Forms.{typeIn, longIn, formAnswer, formAs, storedAs};
+ghost use Rattle.cell.specs.Forms.{formFor, typeIn, longIn, formAnswer, formAs, storedAs};
 ghost use Rattle.cell.specs.inner.Forms.{integerStored, referenceStored, binaryStored};
 
 // How far the smallest integer of 32 bits lies from 0.
@@ -69,6 +69,23 @@ impl ColumnType {
                 FormOf::Form(CellForm::ShortRef)
             }
             ColumnType::Binary => FormOf::Form(CellForm::Binary),
+        }
+    }
+
+    // The same of a type that was judged.
+    pub fn cell_form(self, long_string_refs: bool) -> CellForm
+        ensures { λ r. ⌜ r ≡ formFor self «long_string_refs» ⌝ }
+    {
+        match self {
+            ColumnType::Int16 => CellForm::Int16,
+            ColumnType::Int32 => CellForm::Int32,
+            ColumnType::Str(_) => {
+                if long_string_refs {
+                    return CellForm::LongRef;
+                }
+                CellForm::ShortRef
+            }
+            ColumnType::Binary => CellForm::Binary,
         }
     }
 }

@@ -10,6 +10,7 @@ use Rattle.common.specs.Answers.{Answer, gives, refused, nowhere, onGiven}
 use Rattle.common.specs.Refusals.{refusedBy}
 use Rattle.cell.specs.declared.value.Value.{Value}
 use Rattle.cell.specs.declared.value.Value.the-variants as value
+use Rattle.cell.specs.Cells.{isBinary}
 use Rattle.cell.specs.Forms.{soundType}
 use Rattle.cell.specs.declared.form.ColumnType.{ColumnType}
 use Rattle.cell.specs.declared.form.ColumnType.the-variants.{Int16, Int32, Str, Binary}
@@ -18,12 +19,6 @@ use Rattle.column.specs.declared.column.ValueRange.{ValueRange}
 use Rattle.column.specs.declared.column.ValueRange.the-variants.{Any, Within}
 use Rattle.column.specs.declared.check.Validity.{Validity}
 use Rattle.column.specs.declared.check.Validity.the-variants.{Valid, Invalid, Refused}
-
-abbrev pub isBinary : ColumnType → Bool
-isBinary Int16 = false
-isBinary Int32 = false
-isBinary (Str max) = false
-isBinary Binary = true
 
 -- "inside the range if given"
 abbrev pub inside : ValueRange → ℤ → Bool

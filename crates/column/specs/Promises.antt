@@ -7,11 +7,11 @@ use Rattle.common.specs.Choice.{if_then_else_}
 use Rattle.common.specs.Answers.{gives, onGiven}
 use Rattle.cell.specs.declared.form.ColumnType.{ColumnType}
 use Rattle.cell.specs.declared.form.ColumnType.the-variants.{Str}
+use Rattle.cell.specs.Cells.{isBinary}
 use Rattle.column.specs.declared.column.Column.{Column}
 use Rattle.column.specs.declared.column.ColumnBuilder.{ColumnBuilder}
 use Rattle.column.specs.Bits.{bitsOf, has, typeAfter, typeFrom}
 use Rattle.column.specs.Columns.{bitsColumn, bitfieldAnswer}
-use Rattle.column.specs.Check.{isBinary}
 
 -- "a bit named in none of these tests only makes the first one fail and changes nothing else": bits 14 to 31 are those of 0x4000 and above.
 -- With any of them set the type is what the tests after the first make of the other bits, and the marks are those of the other bits

@@ -5,7 +5,8 @@ use cell::ColumnType;
 use cell::Value;
 use common::Refusal;
 ghost use mathlib.Core.Path.{_≡_};
-ghost use Rattle.column.specs.Check.{isBinary, inside, aboveUpTo, integerFits, textSuits, suits, checkAnswer, validityAs};
+ghost use Rattle.cell.specs.Cells.{isBinary};
+ghost use Rattle.column.specs.Check.{inside, aboveUpTo, integerFits, textSuits, suits, checkAnswer, validityAs};
 
 pub enum Validity {
     Valid,

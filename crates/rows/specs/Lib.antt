@@ -1,3 +1,4 @@
 pub mod Next
 pub mod Promises
 pub mod Points
+pub mod inner

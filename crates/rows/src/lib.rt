@@ -5,7 +5,9 @@ use table::CellRead;
 use table::Counted;
 use table::Table;
 ghost use mathlib.Core.Path.{_≡_};
+ghost use Rattle.common.specs.Refusals.{numberOf, whereOf};
 ghost use Rattle.rows.specs.Next.{stepAs, nextOutcome, beginning};
+ghost use Rattle.rows.specs.inner.Stopped.{stoppedAt};
 
 pub enum NextCell {
     Cell(ValueRef),
@@ -19,8 +21,30 @@ pub struct Step {
     pub at: usize,
 }
 
+// The refusal of a place outside the table: to the reader, past its last cell.
+const OUTSIDE: u32 = 15;
+
 // A step from the place `at`: a cell moves it by one, the end and a refusal leave it.
 pub fn next_at(stream: &[u8], at: usize, table: Table) -> Step
+    ensures { λ r. ⌜ stepAs r ≡ nextOutcome table (now (stream .entry)) at ⌝ }
+{
+    let count = table.count;
+    if count == 0 {
+        return without_columns(stream, at, table);
+    }
+    let read = table.read_cell(stream, at / count, at % count);
+    match read {
+        CellRead::Refused(refusal) => stopped(refusal, at),
+        CellRead::Value(value) => Step {
+            cell: NextCell::Cell(value),
+            at: at + 1,
+        },
+    }
+}
+
+// A table without columns has no cell. It and its stream are judged all the same.
+fn without_columns(stream: &[u8], at: usize, table: Table) -> Step
+    requires { ⌜ table .count ≡ 0 ⌝ }
     ensures { λ r. ⌜ stepAs r ≡ nextOutcome table (now (stream .entry)) at ⌝ }
 {
     let counted = table.num_rows(stream);
@@ -29,33 +53,26 @@ pub fn next_at(stream: &[u8], at: usize, table: Table) -> Step
             cell: NextCell::Refused(refusal),
             at,
         },
-        Counted::Count(rows) => {
-            let count = table.count;
-            if count == 0 {
-                return Step {
-                    cell: NextCell::End,
-                    at,
-                };
-            }
-            let row = at / count;
-            if rows <= row {
-                return Step {
-                    cell: NextCell::End,
-                    at,
-                };
-            }
-            let read = table.read_cell(stream, row, at % count);
-            match read {
-                CellRead::Refused(refusal) => Step {
-                    cell: NextCell::Refused(refusal),
-                    at,
-                },
-                CellRead::Value(value) => Step {
-                    cell: NextCell::Cell(value),
-                    at: at + 1,
-                },
-            }
-        }
+        Counted::Count(_) => Step {
+            cell: NextCell::End,
+            at,
+        },
+    }
+}
+
+// A step that answers no cell.
+fn stopped(refusal: Refusal, at: usize) -> Step
+    ensures { λ r. ⌜ stepAs r ≡ stoppedAt (numberOf refusal) (whereOf refusal) at ⌝ }
+{
+    if refusal.number() == OUTSIDE {
+        return Step {
+            cell: NextCell::End,
+            at,
+        };
+    }
+    Step {
+        cell: NextCell::Refused(refusal),
+        at,
     }
 }
 

@@ -17,9 +17,10 @@ use Rattle.column.specs.declared.column.Column.{Column}
 use Rattle.column.specs.declared.column.ColumnBuilder.{ColumnBuilder}
 use Rattle.column.specs.Bits.{bitsOf, has, without, size, typeFrom}
 use Rattle.column.specs.Columns.{bitsColumn}
+use Rattle.common.proofs.Parts.{over-set}
+use Rattle.widths.specs.Judged.{eachAt}
 use Rattle.table.specs.declared.layout.Table.{Table}
-use Rattle.table.specs.Layout.{eachAt, unused, noTable}
-use Rattle.table.proofs.Layouts.{over-set}
+use Rattle.table.specs.Layout.{unused, noTable}
 
 -- ---- the place of a column changes its refusal alone
 

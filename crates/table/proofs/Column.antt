@@ -19,13 +19,14 @@ use Rattle.cell.specs.Cells.{width}
 use Rattle.cell.specs.Forms.{formFor}
 use Rattle.cell.proofs.Cells.{form-width, form-stored, form-unstored}
 use Rattle.table.specs.declared.stride.Stride.{Stride}
-use Rattle.table.specs.Rows.{rowSize, typeAt, cellAt}
+use Rattle.widths.specs.Widths.{rowSize, typeAt}
+use Rattle.widths.proofs.Rows.{column-in}
+use Rattle.table.specs.Rows.{cellAt}
 use Rattle.table.specs.Writing.{Cells, cellBytes, columnBytes, tableBytes}
 use Rattle.table.specs.inner.Columns.{givenBytes, plain}
 use Rattle.table.specs.inner.Strides.{formWidth, cellNumber, formBytes, formCell}
-use Rattle.table.proofs.Each.{given-refusal, each-same, each-made, fine-first}
+use Rattle.common.proofs.Answers.{given-refusal, each-same, each-made, fine-first}
 use Rattle.table.proofs.Plain.{all-given, plain-length}
-use Rattle.table.proofs.Layouts.{column-in}
 
 -- a cell that can be stored has as many bytes as its form is wide
 fine-length : (f : CellForm) (kinds : List ℕ) (numbers : List ℤ) (run : Stride) (r : ℕ) → refusalOf (formBytes f kinds numbers run r) ≡ gives tt → length (givenBytes (formBytes f kinds numbers run r)) ≡ formWidth f

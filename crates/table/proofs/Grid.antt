@@ -9,13 +9,13 @@ use borrow.Rule.Slice.PartMut.{putMid}
 use lib.ListN.{length, getD, take, drop, set, length-set, length-map, length-append, length-drop, List·getD-append}
 use lib.Seq.{getD-set-same, getD-set-other, getD-append-add, ext-getD, length-take-le}
 use Rattle.common.specs.Lists.{_over_, overAt, from}
-use Rattle.common.proofs.Parts.{over-all, exact-over}
+use Rattle.common.proofs.Parts.{filled-part}
 use Rattle.common.proofs.Writing.{Writing, begin, rooms, steps-front, done-front}
 use Rattle.cell.proofs.Halves.{lt-or-le}
 use Rattle.table.specs.Rows.{rowByRow}
 use Rattle.table.specs.inner.Strides.{strided}
 use Rattle.table.specs.inner.Columns.{rowsFrom}
-use Rattle.table.proofs.Each.{from-done, length-from}
+use Rattle.common.proofs.Lists.{from-done, length-from, map-from}
 use Rattle.table.proofs.Strides.{next-le}
 
 -- ---- n of them from k on
@@ -23,13 +23,6 @@ use Rattle.table.proofs.Strides.{next-le}
 module _ {A : Type 0} (g : ℕ → A) (d : A) where
   pub length-of : (k n : ℕ) → length (map g (from k n)) ≡ n
   length-of k n = length-map (from k n) g ∙ length-from k n
-
-  pub of-at : (k n i : ℕ) → i < n → getD (map g (from k n)) i d ≡ g (k + i)
-  of-at k zero i h = absurd (not-suc-le-zero h)
-  of-at k (suc n) zero h = rw add-zero
-  of-at k (suc n) (suc i) h =
-      let e : k + suc i ≡ suc k + i = omega arith in
-      rw e (of-at (suc k) n i (le-of-suc-le-suc h))
 
 -- ---- row by row
 
@@ -44,7 +37,7 @@ module _ {A : Type 0} (g : ℕ → ℕ → A) (d : A) (columns : ℕ) where
       let e : c + 0 * columns ≡ c = omega (arith, zero-mul columns) in
       let z : 0 + c ≡ c = omega arith in
       let l = length-of (g k) d 0 columns in
-      rw (e, add-zero, List·getD-append (map (g k) (from 0 columns)) (rowsFrom g columns (suc k) n) d c (omega arith), of-at (g k) d 0 columns c p, z)
+      rw (e, add-zero, List·getD-append (map (g k) (from 0 columns)) (rowsFrom g columns (suc k) n) d c (omega arith), map-from (g k) 0 columns c d p, z)
   rows-at k (suc n) (suc r) c h p =
       let l = length-of (g k) d 0 columns in
       let e : c + suc r * columns ≡ length (map (g k) (from 0 columns)) + (c + r * columns) = omega (arith, suc-mul r columns) in
@@ -131,7 +124,7 @@ module _ {A : Type 0} (d : A) (g : ℕ → ℕ → A) (rows step : ℕ) where
             let e : k ≡ c = omega arith in
             let s = i .sized in
             let z : 0 + r ≡ r = omega arith in
-            rw e (strided-at c step vs l r d (omega arith) (omega arith) (omega (arith, next-le r rows step p)) ∙ of-at f d 0 rows r p ∙ rw z (v r)))
+            rw e (strided-at c step vs l r d (omega arith) (omega arith) (omega (arith, next-le r rows step p)) ∙ map-from f 0 rows r d p ∙ rw z (v r)))
             (lt-or-le k c);
       }
 
@@ -155,12 +148,6 @@ module _ {A : Type 0} (d : A) (g : ℕ → ℕ → A) (rows step : ℕ) where
       let y : rows * step ≡ 0 = rw (z, mul-zero) in
       absurd (omega arith))
       (lt-or-le 0 step))
-
--- a part of an output, lent and filled
-pub filled-part : {A : Type 0} (x out last : List A) (at k : ℕ) → last ≡ x → length x ≡ k → at + k ≤ length out → putMid at k out last ≡ overAt at x out
-filled-part x out last at k e l h =
-    let m : length (take k (drop at out)) ≡ k = length-take-le k (drop at out) (simp length-drop (omega arith)) in
-    ap (putMid at k out) (e ∙ sym (over-all x (take k (drop at out)) (omega arith))) ∙ exact-over x out at k h l
 
 -- grids that agree at every place
 pub grid-same : {A : Type 0} (g h : ℕ → ℕ → A) (d : A) (rows columns : ℕ) → ((r c : ℕ) → r < rows → c < columns → g r c ≡ h r c) → rowByRow g rows columns ≡ rowByRow h rows columns

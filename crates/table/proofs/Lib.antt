@@ -1,11 +1,10 @@
-pub mod Each
 pub mod Strides
 pub mod Parts
 pub mod Plain
-pub mod Layouts
 pub mod Grid
 pub mod Judged
 pub mod Column
+pub mod Layouts
 pub mod Answers
 pub mod Bits
 pub mod Points

@@ -7,7 +7,8 @@ use native.Mathlib.Omega.{arith}
 use lib.ListN.{length, length-append}
 use Rattle.common.specs.Lists.{from}
 use Rattle.common.specs.Answers.{Answer, gives, refused, each, refusalOf}
-use Rattle.table.proofs.Each.{from-next, from-done, fine-first}
+use Rattle.common.proofs.Lists.{from-next, from-done}
+use Rattle.common.proofs.Answers.{fine-first}
 use Rattle.table.specs.inner.Columns.{givenBytes, plain}
 
 pub bytes-given : (a : Answer (List ℕ)) → refusalOf a ≡ gives tt → a ≡ gives (givenBytes a)

@@ -8,7 +8,7 @@ use native.Mathlib.Omega.{arith}
 use lib.ListN.{set}
 use Rattle.common.specs.Lists.{from}
 use Rattle.table.specs.inner.Strides.{strided}
-use Rattle.table.proofs.Each.{from-next, from-done}
+use Rattle.common.proofs.Lists.{from-next, from-done}
 
 -- the next multiple, within as many
 pub next-le : (i n k : ℕ) → i < n → i * k + k ≤ n * k

@@ -11,9 +11,9 @@ use Rattle.common.specs.Lists.{_over_}
 use Rattle.cell.specs.declared.form.ColumnType.{ColumnType}
 use Rattle.cell.specs.declared.form.ColumnType.the-variants.{Int16, Str}
 use Rattle.column.specs.Columns.{building, finished}
+use Rattle.widths.specs.Places.{cellStart}
 use Rattle.table.specs.declared.layout.Table.{Table}
 use Rattle.table.specs.Layout.{unused, noTable, bitfieldsOutcome, columnsOutcome, typesOf}
-use Rattle.table.specs.Rows.{cellStart}
 use Rattle.table.specs.Reading.{numRowsAnswer, readCellAnswer, readRowsOutcome}
 use Rattle.table.specs.Writing.{writeRowsOutcome}
 

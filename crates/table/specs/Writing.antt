@@ -11,9 +11,9 @@ use Rattle.order.specs.Order.{bulkFits}
 use Rattle.little_endian.specs.Numbers.{bytesOf}
 use Rattle.cell.specs.declared.form.ColumnType.{ColumnType}
 use Rattle.cell.specs.Cells.{width, stored}
+use Rattle.widths.specs.Widths.{typeAt}
 use Rattle.table.specs.declared.layout.Table.{Table}
 use Rattle.table.specs.Layout.{onColumns, typesOf}
-use Rattle.table.specs.Rows.{typeAt}
 
 -- the cells handed over, "each a kind .. and a signed 32-bit number"
 pub record Cells : Type 0 where
@@ -37,13 +37,13 @@ abbrev pub tableBytes : List ColumnType → Bool → ℕ → Cells → Answer (L
 tableBytes ts long rows cells = onGiven (each (columnBytes ts long rows cells) (from 0 (length ts))) (λ bytes. gives (joined bytes))
 
 -- `write_rows`, where the columns are sound: 14, 23, the cells, 7
-abbrev pub writtenRows : ℕ → List ColumnType → Bool → ℕ → Cells → List ℕ → Answer (ℕ × List ℕ)
-writtenRows most ts long rows cells out =
-    onGiven (bulkFits most rows (length ts) (length (cells .kinds)) (length (cells .numbers)))
+abbrev pub writtenRows : List ColumnType → Bool → ℕ → Cells → List ℕ → Answer (ℕ × List ℕ)
+writtenRows ts long rows cells out =
+    onGiven (bulkFits maxRows rows (length ts) (length (cells .kinds)) (length (cells .numbers)))
     (λ x. onGiven (tableBytes ts long rows cells) (writtenTo out))
 
 abbrev pub writeRowsAnswer : Table → ℕ → Cells → List ℕ → Answer (ℕ × List ℕ)
-writeRowsAnswer t rows cells out = onColumns t (writtenRows maxRows (typesOf t) (t .«long_string_refs») rows cells out)
+writeRowsAnswer t rows cells out = onColumns t (writtenRows (typesOf t) (t .«long_string_refs») rows cells out)
 
 abbrev pub writeRowsOutcome : Table → ℕ → Cells → List ℕ → Answer ℕ × List ℕ
 writeRowsOutcome t rows cells out = outcome out (writeRowsAnswer t rows cells out)

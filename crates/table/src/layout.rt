@@ -1,6 +1,5 @@
-// The layout of a table, its judge, and the arrays that its readers and writers go by.
+// The layout of a table.
 use cell::CellForm;
-use cell::FormOf;
 use column::Column;
 use column::ColumnMade;
 use common::Refusal;
@@ -8,12 +7,9 @@ use common::sizes::MAX_COLUMNS;
 use order::Fits;
 ghost use mathlib.Core.Path.{_≡_};
 ghost use Prim.Native.Nat.{_<_, _≤_};
-ghost use Rattle.common.specs.Answers.{refusalOf};
-ghost use Rattle.order.specs.Order.{fitsAs};
 ghost use Rattle.cell.specs.Forms.{formFor};
-ghost use Rattle.table.specs.Layout.{typesOf, soundColumns, noTable, tableMadeAs, bitfieldsOutcome, columnsOutcome};
-ghost use Rattle.table.specs.Rows.{typeAt};
-ghost use Rattle.table.specs.inner.Layout.{Sound, layoutOf};
+ghost use Rattle.widths.specs.Widths.{typeAt};
+ghost use Rattle.table.specs.Layout.{typesOf, noTable, tableMadeAs, bitfieldsOutcome, columnsOutcome};
 
 // A layout, handed over whole: its first `count` columns are in use.
 pub struct Table {
@@ -40,27 +36,21 @@ pub enum Counted {
     Refused(Refusal),
 }
 
-// Each column's width and the widths before it, and the row size. They travel by value.
-pub(crate) struct Layout {
-    pub(crate) widths: [usize; 64],
-    pub(crate) starts: [usize; 64],
-    pub(crate) row_size: usize,
-}
-
 impl Table {
     // The first `count` of the columns.
     pub fn new(columns: [Column; 64], count: usize, long_string_refs: bool) -> TableMade
         ensures { λ r. ⌜ tableMadeAs r ≡ columnsOutcome columns count «long_string_refs» ⌝ }
     {
+        let judged = widths::widths_of(columns, count, long_string_refs);
+        let verdict = judged.answer;
+        if let Fits::Refused(refusal) = verdict {
+            return no_table(refusal, long_string_refs);
+        }
         let table = Table {
             columns,
             count,
             long_string_refs,
         };
-        let verdict = judge(table, MAX_COLUMNS);
-        if let Fits::Refused(refusal) = verdict {
-            return no_table(refusal, long_string_refs);
-        }
         TableMade {
             answer: Laid::Made,
             table,
@@ -112,63 +102,12 @@ fn no_table(refusal: Refusal, long_string_refs: bool) -> TableMade
     }
 }
 
-// The columns in order; `most` is the largest number of them.
-pub(crate) fn judge(table: Table, most: usize) -> Fits
-    requires { ⌜ most ≤ 64 ⌝ }
-    ensures { λ r. ⌜ fitsAs r ≡ refusalOf (soundColumns most table) ⌝ }
-{
-    let count = table.count;
-    let long = table.long_string_refs;
-    if most < count {
-        return Fits::Refused(Refusal::TooManyColumns);
-    }
-    let mut c = 0;
-    while c < count {
-        let column = table.columns[c];
-        let coltype = column.coltype;
-        let form = coltype.form(c, long);
-        if let FormOf::Refused(refusal) = form {
-            return Fits::Refused(refusal);
-        }
-        c += 1;
-    }
-    Fits::Yes
-}
-
 // The form of a column's cells.
 pub(crate) fn form_at(table: Table, c: usize) -> CellForm
-    requires { ⌜ Sound table × (c < table .count) ⌝ }
+    requires { ⌜ (c < table .count) × (table .count ≤ 64) ⌝ }
     ensures { λ r. ⌜ r ≡ formFor (typeAt (typesOf table) c) (table .«long_string_refs») ⌝ }
 {
     let column = table.columns[c];
     let coltype = column.coltype;
-    let form = coltype.form(c, table.long_string_refs);
-    let FormOf::Form(found) = form else {
-        return CellForm::Binary;
-    };
-    found
-}
-
-// The layout's arrays, filled column by column.
-pub(crate) fn layout_of(table: Table) -> Layout
-    requires { ⌜ Sound table ⌝ }
-    ensures { λ r. ⌜ r ≡ layoutOf table ⌝ }
-{
-    let count = table.count;
-    let mut widths = [0usize; 64];
-    let mut starts = [0usize; 64];
-    let mut at = 0;
-    let mut c = 0;
-    while c < count {
-        let width = form_at(table, c).width();
-        widths[c] = width;
-        starts[c] = at;
-        at += width;
-        c += 1;
-    }
-    Layout {
-        widths,
-        starts,
-        row_size: at,
-    }
+    coltype.cell_form(table.long_string_refs)
 }

@@ -2,26 +2,25 @@
 use crate::column_read;
 use crate::layout;
 use crate::layout::Counted;
-use crate::layout::Layout;
 use crate::layout::Table;
 use crate::stride::Stride;
 use cell::ValueRef;
 use common::Refusal;
-use common::sizes::MAX_BYTES;
-use common::sizes::MAX_COLUMNS;
-use common::sizes::MAX_ROWS;
 use order::Fits;
 use order::cell_fits;
+use widths::Places;
+use widths::PlacesFound;
 ghost use mathlib.Core.Path.{_≡_};
-ghost use Prim.Native.Nat.{_+_, _*_, _/_, _<_, _≤_};
+ghost use Prim.Native.Nat.{_+_, _*_, _<_, _≤_};
 ghost use lib.ListN.{length};
-ghost use Rattle.common.specs.Choice.{if_then_else_, _=?_};
 ghost use Rattle.common.specs.Lists.{_over_};
+ghost use Rattle.common.specs.Answers.{outcome};
 ghost use Rattle.cell.specs.Kinds.{cellAs};
+ghost use Rattle.widths.specs.Places.{placesOutcome, placesAs};
 ghost use Rattle.table.specs.Layout.{typesOf};
 ghost use Rattle.table.specs.Rows.{cellAt, rowByRow};
-ghost use Rattle.table.specs.Reading.{numRowsAnswer, readCellAnswer, readRowsOutcome, countedAs, cellReadAs};
-ghost use Rattle.table.specs.inner.Layout.{Sound, Few, rowsFor, layoutOf};
+ghost use Rattle.table.specs.Reading.{cellsRead, numRowsAnswer, readCellAnswer, readRowsOutcome, countedAs, cellReadAs};
+ghost use Rattle.table.specs.inner.Layout.{Lies};
 ghost use Rattle.table.specs.inner.Columns.{rowsFrom};
 
 pub enum CellRead {
@@ -43,94 +42,91 @@ impl Table {
     pub fn num_rows(self, stream: &[u8]) -> Counted
         ensures { λ r. ⌜ countedAs r ≡ numRowsAnswer self (now (stream .entry)) ⌝ }
     {
-        if MAX_BYTES < stream.len() {
-            return Counted::Refused(Refusal::OverSize);
-        }
-        let verdict = layout::judge(self, MAX_COLUMNS);
+        let found = places_in(self, stream.len());
+        let verdict = found.answer;
         if let Fits::Refused(refusal) = verdict {
             return Counted::Refused(refusal);
         }
-        let arrays = layout::layout_of(self);
-        let rows = rows_of(arrays.row_size, stream.len());
-        if MAX_ROWS < rows {
-            return Counted::Refused(Refusal::TooManyRows);
-        }
-        Counted::Count(rows)
+        let places = found.places;
+        Counted::Count(places.rows)
     }
 
     pub fn read_cell(self, stream: &[u8], row: usize, column: usize) -> CellRead
         ensures { λ r. ⌜ cellReadAs r ≡ readCellAnswer self (now (stream .entry)) row column ⌝ }
     {
-        let counted = self.num_rows(stream);
-        match counted {
-            Counted::Refused(refusal) => CellRead::Refused(refusal),
-            Counted::Count(rows) => {
-                let fits = cell_fits(rows, self.count, row, column);
-                if let Fits::Refused(refusal) = fits {
-                    return CellRead::Refused(refusal);
-                }
-                CellRead::Value(cell_in(self, row, column, stream))
-            }
+        let found = places_in(self, stream.len());
+        let verdict = found.answer;
+        if let Fits::Refused(refusal) = verdict {
+            return CellRead::Refused(refusal);
         }
+        let places = found.places;
+        let fits = cell_fits(places.rows, self.count, row, column);
+        if let Fits::Refused(refusal) = fits {
+            return CellRead::Refused(refusal);
+        }
+        CellRead::Value(cell_in(self, places, row, column, stream))
     }
 
     // The cells row by row, into two lent slices.
     pub fn read_rows(self, stream: &[u8], kinds: &mut [u8], numbers: &mut [i32]) -> Counted
         ensures { λ r. ⌜ (countedAs r, (now (kinds .exit), now (numbers .exit))) ≡ readRowsOutcome self (now (stream .entry)) (now (kinds .entry)) (now (numbers .entry)) ⌝ }
     {
-        let counted = self.num_rows(stream);
-        match counted {
-            Counted::Refused(refusal) => Counted::Refused(refusal),
-            Counted::Count(rows) => {
-                let cells = rows * self.count;
-                if kinds.len() < cells {
-                    return Counted::Refused(Refusal::OutputRoom);
-                }
-                if numbers.len() < cells {
-                    return Counted::Refused(Refusal::OutputRoom);
-                }
-                read_bands(self, rows, stream, kinds, numbers);
-                Counted::Count(cells)
-            }
+        let found = places_in(self, stream.len());
+        let verdict = found.answer;
+        if let Fits::Refused(refusal) = verdict {
+            return Counted::Refused(refusal);
         }
+        let places = found.places;
+        read_found(self, places, stream, kinds, numbers)
     }
 }
 
-fn rows_of(row_size: usize, bytes: usize) -> usize
-    ensures { λ r. ⌜ r ≡ (if «row_size» =? 0 then 0 else bytes / «row_size») ⌝ }
+fn places_in(table: Table, bytes: usize) -> PlacesFound
+    ensures { λ r. ⌜ placesAs r ≡ placesOutcome (table .columns) (table .count) (table .«long_string_refs») bytes ⌝ }
 {
-    if row_size == 0 {
-        return 0;
-    }
-    bytes / row_size
-}
-
-// Where a column begins: for each complete row of so many bytes, the widths before the column.
-fn column_start(bytes: usize, row_size: usize, before: usize) -> usize
-    requires { ⌜ (bytes ≤ 268435455) × (0 < «row_size») × (before ≤ 256) ⌝ }
-    ensures { λ r. ⌜ r ≡ bytes / «row_size» * before ⌝ }
-{
-    bytes / row_size * before
+    let columns = table.columns;
+    widths::places_of(columns, table.count, table.long_string_refs, bytes)
 }
 
 // The cell at a row and a column of the table.
-fn cell_in(table: Table, row: usize, column: usize, stream: &[u8]) -> ValueRef
-    requires { ⌜ Sound table × Few table (now stream) × (row < rowsFor table (now stream)) × (column < table .count) ⌝ }
-    ensures { λ r. ⌜ cellAs r ≡ cellAt (typesOf table) (table .«long_string_refs») (rowsFor table (now (stream .entry))) (now (stream .entry)) row column ⌝ }
+fn cell_in(table: Table, places: Places, row: usize, column: usize, stream: &[u8]) -> ValueRef
+    requires { ⌜ Lies table places (length (now stream)) × (row < places .rows) × (column < table .count) ⌝ }
+    ensures { λ r. ⌜ cellAs r ≡ cellAt (typesOf table) (table .«long_string_refs») (places .rows) (now (stream .entry)) row column ⌝ }
 {
-    let arrays = layout::layout_of(table);
-    let start = column_start(stream.len(), arrays.row_size, arrays.starts[column]);
-    let width = arrays.widths[column];
+    let start = places.starts[column];
+    let width = places.widths[column];
     layout::form_at(table, column).read_value(stream, start + row * width)
 }
 
+// The cells of a stream whose rows and places were found.
+fn read_found(
+    table: Table,
+    places: Places,
+    stream: &[u8],
+    kinds: &mut [u8],
+    numbers: &mut [i32],
+) -> Counted
+    requires { ⌜ Lies table places (length (now stream)) ⌝ }
+    ensures { λ r. ⌜ (countedAs r, (now (kinds .exit), now (numbers .exit))) ≡ outcome (now (kinds .entry), now (numbers .entry)) (cellsRead table (now (stream .entry)) (now (kinds .entry)) (now (numbers .entry)) (places .rows)) ⌝ }
+{
+    let cells = places.rows * table.count;
+    if kinds.len() < cells {
+        return Counted::Refused(Refusal::OutputRoom);
+    }
+    if numbers.len() < cells {
+        return Counted::Refused(Refusal::OutputRoom);
+    }
+    read_bands(table, places, stream, kinds, numbers);
+    Counted::Count(cells)
+}
+
 // Reads the rows band after band: the cells of a band stay near while its columns are read one after the other.
-fn read_bands(table: Table, rows: usize, stream: &[u8], kinds: &mut [u8], numbers: &mut [i32])
-    requires { ⌜ Sound table × Few table (now stream) × (rows ≡ rowsFor table (now stream)) × (rows * table .count ≤ length (now kinds)) × (rows * table .count ≤ length (now numbers)) ⌝ }
-    ensures { λ r. ⌜ (now (kinds .exit) ≡ rowByRow (λ i c. cellAt (typesOf table) (table .«long_string_refs») rows (now (stream .entry)) i c .0) rows (table .count) over now (kinds .entry)) × (now (numbers .exit) ≡ rowByRow (λ i c. cellAt (typesOf table) (table .«long_string_refs») rows (now (stream .entry)) i c .1) rows (table .count) over now (numbers .entry)) ⌝ }
+fn read_bands(table: Table, places: Places, stream: &[u8], kinds: &mut [u8], numbers: &mut [i32])
+    requires { ⌜ Lies table places (length (now stream)) × (places .rows * table .count ≤ length (now kinds)) × (places .rows * table .count ≤ length (now numbers)) ⌝ }
+    ensures { λ r. ⌜ (now (kinds .exit) ≡ rowByRow (λ i c. cellAt (typesOf table) (table .«long_string_refs») (places .rows) (now (stream .entry)) i c .0) (places .rows) (table .count) over now (kinds .entry)) × (now (numbers .exit) ≡ rowByRow (λ i c. cellAt (typesOf table) (table .«long_string_refs») (places .rows) (now (stream .entry)) i c .1) (places .rows) (table .count) over now (numbers .entry)) ⌝ }
 {
     let count = table.count;
-    let arrays = layout::layout_of(table);
+    let rows = places.rows;
     let mut first = 0;
     while first < rows {
         let some = near(rows - first);
@@ -139,7 +135,7 @@ fn read_bands(table: Table, rows: usize, stream: &[u8], kinds: &mut [u8], number
         let end = at + some * count;
         read_columns(
             table,
-            arrays,
+            places,
             band,
             stream,
             &mut kinds[at..end],
@@ -159,22 +155,21 @@ fn near(left: usize) -> usize
 // Reads the columns of a band one after the other.
 fn read_columns(
     table: Table,
-    arrays: Layout,
+    places: Places,
     band: Band,
     stream: &[u8],
     kinds: &mut [u8],
     numbers: &mut [i32],
 )
-    requires { ⌜ Sound table × (arrays ≡ layoutOf table) × Few table (now stream) × (band .first + band .rows ≤ rowsFor table (now stream)) × (length (now kinds) ≡ band .rows * table .count) × (length (now numbers) ≡ band .rows * table .count) ⌝ }
-    ensures { λ r. ⌜ (now (kinds .exit) ≡ rowsFrom (λ i c. cellAt (typesOf table) (table .«long_string_refs») (rowsFor table (now (stream .entry))) (now (stream .entry)) i c .0) (table .count) (band .first) (band .rows)) × (now (numbers .exit) ≡ rowsFrom (λ i c. cellAt (typesOf table) (table .«long_string_refs») (rowsFor table (now (stream .entry))) (now (stream .entry)) i c .1) (table .count) (band .first) (band .rows)) ⌝ }
+    requires { ⌜ Lies table places (length (now stream)) × (band .first + band .rows ≤ places .rows) × (length (now kinds) ≡ band .rows * table .count) × (length (now numbers) ≡ band .rows * table .count) ⌝ }
+    ensures { λ r. ⌜ (now (kinds .exit) ≡ rowsFrom (λ i c. cellAt (typesOf table) (table .«long_string_refs») (places .rows) (now (stream .entry)) i c .0) (table .count) (band .first) (band .rows)) × (now (numbers .exit) ≡ rowsFrom (λ i c. cellAt (typesOf table) (table .«long_string_refs») (places .rows) (now (stream .entry)) i c .1) (table .count) (band .first) (band .rows)) ⌝ }
 {
     let count = table.count;
     let first = band.first;
     let some = band.rows;
     let mut c = 0;
     while c < count {
-        let start = column_start(stream.len(), arrays.row_size, arrays.starts[c]);
-        let from = start + first * arrays.widths[c];
+        let from = places.starts[c] + first * places.widths[c];
         let run = Stride {
             column: c,
             step: count,

@@ -22,27 +22,33 @@ use Rattle.cell.specs.Cells.{width, stored, unstored}
 use Rattle.order.specs.Order.{bulkFits}
 use Rattle.order.proofs.Cells.{bulk}
 use Rattle.table.specs.declared.layout.Table.{Table}
-use Rattle.table.specs.Layout.{typesOf, soundColumns}
-use Rattle.table.specs.Rows.{rowSize, rowsIn, typeAt, cellAt, rowByRow}
-use Rattle.table.specs.Reading.{rowsFound, numRowsAnswer, readCellAnswer, readRowsOutcome}
+use Rattle.widths.specs.Judged.{soundColumns}
+use Rattle.widths.specs.Widths.{rowSize, typeAt}
+use Rattle.widths.specs.Places.{rowsIn, rowsFound}
+use Rattle.widths.proofs.Judged.{count-few, columns-passed}
+use Rattle.widths.proofs.Rows.{size-le}
+use Rattle.table.specs.Layout.{typesOf}
+use Rattle.table.specs.Rows.{cellAt, rowByRow}
+use Rattle.table.specs.Reading.{numRowsAnswer, readCellAnswer, readRowsOutcome}
 use Rattle.table.specs.Writing.{Cells, cellBytes, columnBytes, tableBytes, writeRowsOutcome}
-use Rattle.table.specs.inner.Layout.{Sound}
 use Rattle.table.specs.inner.Columns.{givenBytes, plain}
-use Rattle.table.proofs.Each.{given-refusal, fine-first}
+use Rattle.common.proofs.Answers.{given-refusal, fine-first, each-fine}
 use Rattle.table.proofs.Strides.{next-le}
 use Rattle.table.proofs.Parts.{part-number}
 use Rattle.table.proofs.Plain.{all-given}
-use Rattle.table.proofs.Layouts.{types-count, columns-passed, judged-sound, size-le}
+use Rattle.table.proofs.Layouts.{types-count}
 use Rattle.table.proofs.Grid.{length-grid, grid-same}
 use Rattle.table.proofs.Column.{column-length, columns-length, table-judged, table-given, table-length}
-use Rattle.table_promises.specs.Promises.{readsAs, handedBack, WriteThenRead}
-use Rattle.table_promises.proofs.Cells.{cell-read-back, stored-fits}
+use Rattle.cell.specs.Promises.{readsAs}
+use Rattle.cell.proofs.ReadBack.{cell-read-back, stored-fits}
+use Rattle.table_promises.specs.Promises.{handedBack, WriteThenRead}
 use Rattle.table_promises.proofs.Agree.{read-is}
 use Rattle.table_promises.proofs.Pieces.{equal-at, plain-split}
 
 -- what a write that was not refused says
 pub record Done (t : Table) (rows : ℕ) (cells : Cells) (out : List ℕ) (n : ℕ) (left : List ℕ) : Type 0 where
-  pub sound : Sound t
+  pub sound : gives tt ≡ refusalOf (soundColumns (t .columns) (t .count))
+  pub narrow : t .count ≤ 64
   pub few : rows ≤ 65536
   pub fine : refusalOf (tableBytes (typesOf t) (t .«long_string_refs») rows cells) ≡ gives tt
   count : n ≡ length (givenBytes (tableBytes (typesOf t) (t .«long_string_refs») rows cells))
@@ -68,32 +74,25 @@ module _ (t : Table) (rows : ℕ) (cells : Cells) (out : List ℕ) (n : ℕ) (le
   order = bulkFits 65536 rows (length (typesOf t)) (length (cells .kinds)) (length (cells .numbers))
 
   pub done : writeRowsOutcome t rows cells out ≡ (gives n, left) → Done t rows cells out n left
-  done e = go (soundColumns 64 t) refl order refl bytes refl e
+  done e = go (soundColumns (t .columns) (t .count)) refl order refl bytes refl e
     where
-      room : (b : List ℕ) (d : Bool) → Sound t → rows ≤ 65536 → bytes ≡ gives b
+      room : (b : List ℕ) (d : Bool) → gives tt ≡ refusalOf (soundColumns (t .columns) (t .count)) → rows ≤ 65536 → bytes ≡ gives b
           → outcome {A = ℕ} out (if d then refused 7 nowhere else gives (length b, b over out)) ≡ (gives n, left) → Done t rows cells out n left
       room b true s f p q = absurd (never-pair 7 n nowhere out left q)
       room b false s f p q =
           let i = pair (length b) n (b over out) left q in
-          record { sound = s; few = f; fine = rw p; count = rw p (sym (i .0)); is = rw p (sym (i .1)) }
+          record { sound = s; narrow = count-few (t .columns) (t .count) s; few = f; fine = rw p; count = rw p (sym (i .0)); is = rw p (sym (i .1)) }
 
-      go : (x : Answer (List Column)) → soundColumns 64 t ≡ x → (o : Answer (Unit {0})) → order ≡ o → (y : Answer (List ℕ)) → bytes ≡ y
+      go : (x : Answer (List Column)) → soundColumns (t .columns) (t .count) ≡ x → (o : Answer (Unit {0})) → order ≡ o → (y : Answer (List ℕ)) → bytes ≡ y
           → outcome out (onGiven x (λ xs. onGiven o (λ z. onGiven y (λ c. if ltb (length out) (length c) then refused 7 nowhere else gives (length c, c over out))))) ≡ (gives n, left)
           → Done t rows cells out n left
       go (refused m at) p o q y u f = absurd (never-pair m n at out left f)
       go (gives xs) p (refused m at) q y u f = absurd (never-pair m n at out left f)
       go (gives xs) p (gives z) q (refused m at) u f = absurd (never-pair m n at out left f)
-      go (gives xs) p (gives z) q (gives c) u f = room c (ltb (length out) (length c)) (judged-sound t (rw p)) (bulk 65536 rows _ _ _ (sym q) .few) u f
+      go (gives xs) p (gives z) q (gives c) u f = room c (ltb (length out) (length c)) (rw p) (bulk 65536 rows _ _ _ (sym q) .few) u f
 
 no-refusal : (n : ℕ) (at : Place) → _≡_ {A = Answer (Unit {0})} (refused n at) (gives tt) → ⊥
 no-refusal n at e = let z : _≡_ {A = ℕ} 0 1 = cc in omega arith
-
-each-fine : (f : ℕ → Answer (List ℕ)) (k n r : ℕ) → refusalOf (each f (from k n)) ≡ gives tt → r < n → refusalOf (f (k + r)) ≡ gives tt
-each-fine f k zero r e h = absurd (omega arith)
-each-fine f k (suc n) zero e h = rw add-zero (fine-first f k (from (suc k) n) e .0)
-each-fine f k (suc n) (suc r) e h =
-    let j : k + suc r ≡ suc k + r = omega arith in
-    rw j (each-fine f (suc k) n r (fine-first f k (from (suc k) n) e .1) (omega arith))
 
 -- ---- where a cell's bytes stand
 
@@ -236,7 +235,7 @@ rows-back size rows n false e q z =
     positive zero y = absurd (y refl)
     positive (suc k) y = omega arith
 
-module _ (t : Table) (rows : ℕ) (cells : Cells) (whole : length (t .columns) ≡ 64) (sound : Sound t) (few : rows ≤ 65536) (fine : refusalOf (tableBytes (typesOf t) (t .«long_string_refs») rows cells) ≡ gives tt) where
+module _ (t : Table) (rows : ℕ) (cells : Cells) (whole : length (t .columns) ≡ 64) (sound : gives tt ≡ refusalOf (soundColumns (t .columns) (t .count))) (narrow : t .count ≤ 64) (few : rows ≤ 65536) (fine : refusalOf (tableBytes (typesOf t) (t .«long_string_refs») rows cells) ≡ gives tt) where
   abbrev types : List ColumnType
   types = typesOf t
 
@@ -251,11 +250,11 @@ module _ (t : Table) (rows : ℕ) (cells : Cells) (whole : length (t .columns) �
 
   small : length stream ≤ 268435455
   small =
-      let c = types-count t (sound .0) whole in
-      omega (arith, long, mul-le-mul-right {m = rows} {n = 65536} (rowSize types long-refs) few, size-le long-refs types, sound .0)
+      let c = types-count t narrow whole in
+      omega (arith, long, mul-le-mul-right {m = rows} {n = 65536} (rowSize types long-refs) few, size-le long-refs types, narrow)
 
-  found-rows : (n : ℕ) → rowsIn types long-refs stream ≡ n → n ≤ 65536 → numRowsAnswer t stream ≡ gives n
-  found-rows n e h = rw (le-ltb 268435455 (length stream) small, columns-passed t (rowsFound 65536 t stream) (sym (sound .1)), e, le-ltb 65536 n h)
+  found-rows : (n : ℕ) → rowsIn types long-refs (length stream) ≡ n → n ≤ 65536 → numRowsAnswer t stream ≡ gives n
+  found-rows n e h = rw (le-ltb 268435455 (length stream) small, columns-passed (t .columns) (t .count) (rowsFound types long-refs (length stream)) sound, e, le-ltb 65536 n h)
 
   -- where a row has bytes, all rows are found again
   all-rows : eqb (rowSize types long-refs) 0 ≡ false → numRowsAnswer t stream ≡ gives rows
@@ -263,13 +262,13 @@ module _ (t : Table) (rows : ℕ) (cells : Cells) (whole : length (t .columns) �
 
   cell-back : (r c : ℕ) → r < rows → c < t .count → cellAt types long-refs rows stream r c ≡ handedBack t cells r c
   cell-back r c p q =
-      let n = types-count t (sound .0) whole in
+      let n = types-count t narrow whole in
       reads-back types long-refs rows cells fine c (omega arith) r p
       ∙ ap (λ (x : ℕ). readsAs (getD (cells .kinds) (r * x + c) 0) (getD (cells .numbers) (r * x + c) (pos 0))) n
 
   pub place-back : (r c : ℕ) → r < rows → c < t .count → readCellAnswer t stream r c ≡ gives (handedBack t cells r c)
   place-back r c p q =
-      let n = types-count t (sound .0) whole in
+      let n = types-count t narrow whole in
       let some = ne-eqb (rowSize types long-refs) 0 (λ z. omega (arith, size-ge long-refs types)) in
       rw (all-rows some, lt-ltb r rows p, lt-ltb c (t .count) q, cell-back r c p q)
 
@@ -286,7 +285,7 @@ module _ (t : Table) (rows : ℕ) (cells : Cells) (whole : length (t .columns) �
         let y = grid-same (λ (r c : ℕ). g r c .1) (λ (r c : ℕ). handedBack t cells r c .1) (pos 0) rows (t .count) (λ r c p q. ap (λ (v : ℕ × ℤ). v .1) (cell-back r c p q)) in
         read ∙ rw (x, y)
     by-size true e =
-        let n = types-count t (sound .0) whole in
+        let n = types-count t narrow whole in
         let z = eqb-true (rowSize types long-refs) 0 e in
         let c : t .count ≡ 0 = omega (arith, size-ge long-refs types) in
         let q : rows * t .count ≡ 0 = rw (c, mul-zero) in
@@ -310,4 +309,4 @@ written-bytes t rows cells out n left d =
 pub write-then-read : WriteThenRead
 write-then-read t rows cells out n left kinds numbers whole e k m =
     let d = done t rows cells out n left e in
-    rw (written-bytes t rows cells out n left d) (table-back t rows cells whole (d .sound) (d .few) (d .fine) kinds numbers k m)
+    rw (written-bytes t rows cells out n left d) (table-back t rows cells whole (d .sound) (d .narrow) (d .few) (d .fine) kinds numbers k m)

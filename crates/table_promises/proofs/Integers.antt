@@ -16,17 +16,19 @@ use Rattle.little_endian.specs.Numbers.{bytesOf}
 use Rattle.cell.specs.declared.form.ColumnType.{ColumnType}
 use Rattle.cell.specs.declared.form.ColumnType.the-variants.{Int16, Int32, Str, Binary}
 use Rattle.cell.specs.Cells.{width, stored}
+use Rattle.cell.specs.Promises.{readsAs}
 use Rattle.cell.proofs.Numbers.{integer-number}
 use Rattle.table.specs.declared.layout.Table.{Table}
 use Rattle.table.specs.Layout.{typesOf}
-use Rattle.table.specs.Rows.{typeAt}
+use Rattle.widths.specs.Widths.{typeAt}
+use Rattle.widths.proofs.Judged.{count-few, columns-passed}
 use Rattle.table.specs.Reading.{readCellAnswer}
 use Rattle.table.specs.Writing.{Cells, cellBytes, columnBytes, tableBytes, writtenRows, writeRowsAnswer, writeRowsOutcome}
-use Rattle.table.proofs.Each.{given-refusal, after-given, refused-is}
-use Rattle.table.proofs.Layouts.{types-count, columns-passed, judged-sound}
+use Rattle.common.proofs.Answers.{given-refusal, refused-is, first-refused, none-refused}
+use Rattle.table.proofs.Layouts.{types-count}
 use Rattle.table.proofs.Column.{table-judged}
 use Rattle.table.proofs.Answers.{bad-cell}
-use Rattle.table_promises.specs.Promises.{readsAs, handed, isInteger, halfOf, IntAt, Kept, IntegersKept, Int16Kept, Int32Kept, Stored, NeverWritten, First, RefusedWith17, OutsideRefused, OutsideIs17, SmallestRefused, FortyThousand}
+use Rattle.table_promises.specs.Promises.{handed, isInteger, halfOf, IntAt, Kept, IntegersKept, Int16Kept, Int32Kept, Stored, NeverWritten, First, RefusedWith17, OutsideRefused, OutsideIs17, SmallestRefused, FortyThousand}
 use Rattle.table_promises.proofs.Back.{done, kept, fine-cell, place-back, written-bytes}
 
 -- ---- one cell
@@ -55,11 +57,11 @@ integers-kept type i n t rows cells out r c m left x e =
     let d = done t rows cells out m left e in
     let ts = typesOf t in
     let long = t .«long_string_refs» in
-    let count = types-count t (d .sound .0) (x .whole) in
+    let count = types-count t (d .narrow) (x .whole) in
     let h : c < length ts = omega (arith, x .column) in
     let k = kept ts long rows cells (d .fine) c h r (fine-cell ts long rows cells (d .fine) c h r (x .row)) in
     let s = sym (this-cell x count) ∙ k .stores in
-    let back = place-back t rows cells (x .whole) (d .sound) (d .few) (d .fine) r c (x .row) (x .column) in
+    let back = place-back t rows cells (x .whole) (d .sound) (d .narrow) (d .few) (d .fine) r c (x .row) (x .column) in
     (within type long (cell r c) n (k .number) i s, rw (written-bytes t rows cells out m left d) (back ∙ ap (λ (v : ℕ × ℤ). gives (readsAs (v .0) (v .1))) (x .cell-is)))
 
 pub int16-kept : Int16Kept
@@ -77,28 +79,11 @@ outside-refused type n i h t rows cells out r c x = go (writeRowsAnswer t rows c
     go (gives v) e = absurd (let y = integers-kept type i n t rows cells out r c (v .0) (v .1) x (ap (outcome out) e) .0 in omega arith)
     go (refused m at) e = (m, at, ap (outcome out) e)
 
--- the first of n from k on that is refused says it all
-first-refused : {A : Type 0} (f : ℕ → Answer A) (k n c m : ℕ) (at : Place) → c < n → ((x : ℕ) → k ≤ x → x < k + c → refusalOf (f x) ≡ gives tt) → f (k + c) ≡ refused m at → refusalOf (each f (from k n)) ≡ refused m at
-first-refused f k zero c m at h g e = absurd (omega arith)
-first-refused f k (suc n) zero m at h g e = let e₀ : f k ≡ refused m at = rw (add-zero) at e in rw e₀
-first-refused f k (suc n) (suc c) m at h g e =
-    let j : k + suc c ≡ suc k + c = omega arith in
-    let rest = first-refused f (suc k) n c m at (omega arith) (λ x p q. g x (omega arith) (omega arith)) (rw j at e) in
-    after-given (f k) (λ y. onGiven (each f (from (suc k) n)) (λ ys. gives (y ∷ ys))) (g k (omega arith) (omega arith)) (refused m at) (λ y. given-refusal (each f (from (suc k) n)) (λ ys. y ∷ ys) ∙ rest)
-
--- none of them is refused
-none-refused : {A : Type 0} (f : ℕ → Answer A) (k n : ℕ) → ((x : ℕ) → k ≤ x → x < k + n → refusalOf (f x) ≡ gives tt) → refusalOf (each f (from k n)) ≡ gives tt
-none-refused f k zero g = refl
-none-refused f k (suc n) g =
-    let rest = none-refused f (suc k) n (λ x p q. g x (omega arith) (omega arith)) in
-    after-given (f k) (λ y. onGiven (each f (from (suc k) n)) (λ ys. gives (y ∷ ys))) (g k (omega arith) (omega arith)) (gives tt) (λ y. given-refusal (each f (from (suc k) n)) (λ ys. y ∷ ys) ∙ rest)
-
 pub outside-is-17 : OutsideIs17
 outside-is-17 type n i h t rows cells out r c x f =
     let ts = typesOf t in
     let long = t .«long_string_refs» in
-    let sound = judged-sound t (sym (f .columns-sound)) in
-    let count = types-count t (sound .0) (x .whole) in
+    let count = types-count t (count-few (t .columns) (t .count) (sym (f .columns-sound))) (x .whole) in
     let fine : (a b : ℕ) → Stored t cells a b → refusalOf (cellBytes (typeAt ts b) long (length ts) cells b a) ≡ gives tt =
     λ a b e. given-refusal (stored (typeAt ts b) long (cell a b) (getD (cells .kinds) (a * length ts + b) 0) (getD (cells .numbers) (a * length ts + b) (pos 0))) (bytesOf (width (typeAt ts b) long)) ∙ rw count e in
     let column-fine : (b : ℕ) → b < c → refusalOf (columnBytes ts long rows cells b) ≡ gives tt =
@@ -113,7 +98,7 @@ outside-is-17 type n i h t rows cells out r c x f =
     let bad = table-judged ts long rows cells ∙ first-refused (columnBytes ts long rows cells) 0 (length ts) c 17 (cell r c) (omega (arith, x .column)) (λ b u v. column-fine b (omega arith)) column-bad in
     let fit : gives tt ≡ bulkFits 65536 rows (length ts) (length (cells .kinds)) (length (cells .numbers)) =
     rw (count, le-ltb 65536 rows (f .few), eq-eqb _ _ (f .kinds-all), eq-eqb _ _ (f .numbers-all)) in
-    ap (outcome out) (columns-passed t (writtenRows 65536 ts long rows cells out) (sym (f .columns-sound)) ∙ bad-cell ts long rows cells out fit 17 (cell r c) (sym bad))
+    ap (outcome out) (columns-passed {A = ℕ × List ℕ} (t .columns) (t .count) (writtenRows ts long rows cells out) (sym (f .columns-sound)) ∙ bad-cell ts long rows cells out fit 17 (cell r c) (sym bad))
 
 pub smallest-refused : SmallestRefused
 smallest-refused =

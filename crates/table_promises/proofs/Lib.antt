@@ -1,4 +1,3 @@
-pub mod Cells
 pub mod Agree
 pub mod Pieces
 pub mod Rewritten

@@ -12,16 +12,10 @@ use Rattle.common.specs.Lists.{joined, from}
 use Rattle.common.specs.Answers.{Answer, gives, each, refusalOf}
 use Rattle.cell.specs.declared.form.ColumnType.{ColumnType}
 use Rattle.cell.specs.Cells.{width}
-use Rattle.table.specs.Rows.{rowSize, typeAt}
+use Rattle.widths.specs.Widths.{rowSize, typeAt}
 use Rattle.table.specs.inner.Columns.{givenBytes, plain}
-use Rattle.table.proofs.Each.{fine-first}
+use Rattle.common.proofs.Answers.{fine-first}
 use Rattle.table.proofs.Column.{size-next}
-
--- each of them given, where it is within
-pub each-given : {A : Type 0} (f : ℕ → Answer A) (g : ℕ → A) (k n : ℕ) → ((x : ℕ) → k ≤ x → x < k + n → f x ≡ gives (g x)) → each f (from k n) ≡ gives (map g (from k n))
-each-given f g k zero h = refl
-each-given f g k (suc n) h =
-    rw (h k (omega arith) (omega arith), each-given f g (suc k) n (λ x p q. h x (omega arith) (omega arith)))
 
 -- equal pieces
 pub equal-pieces : (w start : ℕ) (s : List ℕ) (k n : ℕ) → joined (map (λ (r : ℕ). take w (drop (start + r * w) s)) (from k n)) ≡ take (n * w) (drop (start + k * w) s)

@@ -15,23 +15,26 @@ use Rattle.little_endian.specs.Promises.{AreBytes}
 use Rattle.little_endian.proofs.Laws.{number-lt, write-back}
 use Rattle.cell.specs.declared.form.ColumnType.{ColumnType}
 use Rattle.cell.specs.declared.form.ColumnType.the-variants.{Int16, Int32, Str, Binary}
-use Rattle.column.specs.Check.{isBinary}
-use Rattle.cell.specs.Cells.{width}
+use Rattle.cell.specs.Cells.{isBinary, width}
 use Rattle.table.specs.declared.layout.Table.{Table}
 use Rattle.table.specs.Layout.{typesOf}
-use Rattle.table.specs.Rows.{rowSize, typeAt, cellStart, cellAt, rowByRow}
+use Rattle.common.proofs.Answers.{each-given}
+use Rattle.widths.specs.Widths.{rowSize, typeAt}
+use Rattle.widths.specs.Places.{cellStart}
+use Rattle.widths.proofs.Judged.{columns-passed}
+use Rattle.widths.proofs.Rows.{Found, found, rows-hold}
+use Rattle.table.specs.Rows.{cellAt, rowByRow}
 use Rattle.table.specs.Writing.{Cells, cellBytes, columnBytes, tableBytes, writtenRows}
 use Rattle.table.proofs.Strides.{next-le}
-use Rattle.table.proofs.Layouts.{types-count, columns-passed}
+use Rattle.table.proofs.Layouts.{types-count}
 use Rattle.table.proofs.Grid.{length-grid, grid-at}
 use Rattle.table.proofs.Column.{column-within}
-use Rattle.table.proofs.Answers.{Found, found, holds}
 use Rattle.table_promises.specs.Promises.{ReadThenWrite}
-use Rattle.table_promises.proofs.Cells.{stored-again}
+use Rattle.cell.proofs.ReadBack.{stored-again}
 use Rattle.table_promises.proofs.Agree.{read-is}
-use Rattle.table_promises.proofs.Pieces.{each-given, equal-pieces, column-pieces}
+use Rattle.table_promises.proofs.Pieces.{equal-pieces, column-pieces}
 
-module _ (t : Table) (s : List ℕ) (rows : ℕ) (whole : length (t .columns) ≡ 64) (bytes : AreBytes s) (small : (r c : ℕ) → r < rows → c < t .count → isBinary (typeAt (typesOf t) c) ≡ true → numberAt 2 s (cellStart (typesOf t) (t .«long_string_refs») rows r c) ≤ 1) (f : Found t s rows) where
+module _ (t : Table) (s : List ℕ) (rows : ℕ) (whole : length (t .columns) ≡ 64) (bytes : AreBytes s) (small : (r c : ℕ) → r < rows → c < t .count → isBinary (typeAt (typesOf t) c) ≡ true → numberAt 2 s (cellStart (typesOf t) (t .«long_string_refs») rows r c) ≤ 1) (f : Found (t .columns) (t .count) (t .«long_string_refs») (length s) rows) where
   abbrev ts : List ColumnType
   ts = typesOf t
 
@@ -45,7 +48,10 @@ module _ (t : Table) (s : List ℕ) (rows : ℕ) (whole : length (t .columns) �
   cells = record { kinds = rowByRow (λ (r c : ℕ). g r c .0) rows (t .count); numbers = rowByRow (λ (r c : ℕ). g r c .1) rows (t .count) }
 
   count : length ts ≡ t .count
-  count = types-count t (f .sound .0) whole
+  count = types-count t (f .narrow) whole
+
+  pub holds : rows * rowSize ts long ≤ length s
+  holds = rw (f .is) (rows-hold ts long (length s))
 
   -- the number of a Binary cell, which has two bytes
   few : (t : ColumnType) (at : ℕ) → (isBinary t ≡ true → numberAt 2 s at ≤ 1) → isBinary t ≡ true → numberAt (width t long) s at ≤ 1
@@ -63,7 +69,7 @@ module _ (t : Table) (s : List ℕ) (rows : ℕ) (whole : length (t .columns) �
       let k : getD (cells .kinds) (r * t .count + c) 0 ≡ g r c .0 = rw i (grid-at (λ (a b : ℕ). g a b .0) 0 (t .count) rows r c hr hc) in
       let n : getD (cells .numbers) (r * t .count + c) (pos 0) ≡ g r c .1 = rw i (grid-at (λ (a b : ℕ). g a b .1) (pos 0) (t .count) rows r c hr hc) in
       let again = stored-again (typeAt ts c) long (cell r c) (numberAt w s at) (few (typeAt ts c) at (small r c hr hc)) (number-lt w s at bytes) in
-      let room : at + w ≤ length s = omega (arith, next-le r rows w hr, column-within ts long rows c (omega (arith, count)), holds f) in
+      let room : at + w ≤ length s = omega (arith, next-le r rows w hr, column-within ts long rows c (omega (arith, count)), holds) in
       rw (count, k, n, again, write-back w s at bytes room)
 
   one-column : (c : ℕ) → c < t .count → columnBytes ts long rows cells c ≡ gives (take (rows * width (typeAt ts c) long) (drop (rows * rowSize (take c ts) long) s))
@@ -83,21 +89,21 @@ module _ (t : Table) (s : List ℕ) (rows : ℕ) (whole : length (t .columns) �
 
 pub read-then-write : ReadThenWrite
 read-then-write t s rows kinds numbers out whole bytes small e k n room =
-    let f = found t s rows e in
+    let f = found (t .columns) (t .count) (t .«long_string_refs») (length s) rows e in
     let ts = typesOf t in
     let long = t .«long_string_refs» in
     let g = cellAt ts long rows s in
     let lk = length-grid (λ (a b : ℕ). g a b .0) 0 (t .count) rows in
     let ln = length-grid (λ (a b : ℕ). g a b .1) (pos 0) (t .count) rows in
-    let count = types-count t (f .sound .0) whole in
+    let count = types-count t (f .narrow) whole in
     let read = read-is t s rows kinds numbers e k n in
     let ok = take-at (rowByRow (λ (a b : ℕ). g a b .0) rows (t .count)) (drop (length (rowByRow (λ (a b : ℕ). g a b .0) rows (t .count))) kinds) (rows * t .count) lk in
     let on = take-at (rowByRow (λ (a b : ℕ). g a b .1) rows (t .count)) (drop (length (rowByRow (λ (a b : ℕ). g a b .1) rows (t .count))) numbers) (rows * t .count) ln in
     let cells : Cells = record { kinds = rowByRow (λ (r c : ℕ). g r c .0) rows (t .count); numbers = rowByRow (λ (r c : ℕ). g r c .1) rows (t .count) } in
     let again = table-again t s rows whole bytes small f in
-    let l : length (take (rows * rowSize ts long) s) ≡ rows * rowSize ts long = length-take-le (rows * rowSize ts long) s (holds f) in
+    let l : length (take (rows * rowSize ts long) s) ≡ rows * rowSize ts long = length-take-le (rows * rowSize ts long) s (holds t s rows whole bytes small f) in
     let ek : length (cells .kinds) ≡ rows * length ts = lk ∙ ap (λ (m : ℕ). rows * m) (sym count) in
     let en : length (cells .numbers) ≡ rows * length ts = ln ∙ ap (λ (m : ℕ). rows * m) (sym count) in (
       ap (λ (x : _). x .0) read,
-      rw (read, ok, on, columns-passed t (writtenRows 65536 ts long rows cells out) (sym (f .sound .1)), le-ltb 65536 rows (f .few), eq-eqb _ _ ek, eq-eqb _ _ en, again, le-ltb (length out) (length (take (rows * rowSize ts long) s)) (omega arith), l),
+      rw (read, ok, on, columns-passed {A = ℕ × List ℕ} (t .columns) (t .count) (writtenRows ts long rows cells out) (f .sound), le-ltb 65536 rows (f .few), eq-eqb _ _ ek, eq-eqb _ _ en, again, le-ltb (length out) (length (take (rows * rowSize ts long) s)) (omega arith), l),
     )

@@ -1,36 +1,26 @@
--- What is promised of cells and tables: what was written reads back, and what was read writes back.
+-- What is promised of tables: what was written reads back, and what was read writes back. A layout has 64 places.
 use Prim.Native.Nat.{ℕ, _+_, _*_, _≤_, _<_}
 use mathlib.Core.Path.{_≡_}
 use mathlib.Core.Bool.{Bool, true, false}
 use mathlib.Core.List.{List}
 use lib.IntN.{ℤ, pos, negsuc, natAbs}
 use lib.ListN.{length, take, getD}
-use Rattle.common.specs.Choice.{if_then_else_, _=?_}
 use Rattle.common.specs.Lists.{_over_}
 use Rattle.common.specs.Answers.{Place, gives, refused, cell, refusalOf}
 use Rattle.little_endian.specs.Numbers.{numberAt}
 use Rattle.little_endian.specs.Promises.{AreBytes}
 use Rattle.cell.specs.declared.form.ColumnType.{ColumnType}
 use Rattle.cell.specs.declared.form.ColumnType.the-variants.{Int16, Int32, Str, Binary}
-use Rattle.column.specs.Check.{isBinary}
-use Rattle.cell.specs.Cells.{stored, unstored}
+use Rattle.cell.specs.Cells.{isBinary, stored}
+use Rattle.cell.specs.Promises.{readsAs}
 use Rattle.table.specs.declared.layout.Table.{Table}
-use Rattle.table.specs.Layout.{typesOf, soundColumns}
-use Rattle.table.specs.Rows.{rowSize, typeAt, cellStart, rowByRow}
+use Rattle.widths.specs.Judged.{soundColumns}
+use Rattle.widths.specs.Widths.{rowSize, typeAt}
+use Rattle.widths.specs.Places.{cellStart}
+use Rattle.table.specs.Layout.{typesOf}
+use Rattle.table.specs.Rows.{rowByRow}
 use Rattle.table.specs.Reading.{numRowsAnswer, readCellAnswer, readRowsOutcome}
 use Rattle.table.specs.Writing.{Cells, writeRowsOutcome}
-
--- ---- cells
-
--- what a cell reads as that was written: itself, a Null's and a Binary's number as 0
-abbrev pub readsAs : ℕ → ℤ → ℕ × ℤ
-readsAs kind n = if kind =? 0 then (0, pos 0) else if kind =? 3 then (3, pos 0) else (kind, n)
-
--- document 02, E2: "every accepted cell outside Binary columns reads back as handed in, a Null's number as 0"; a Binary cell's number as 0 too
-abbrev pub CellReadBack : Type 0
-CellReadBack = (t : ColumnType) (long : Bool) (at : Place) (kind : ℕ) (n : ℤ) (m : ℕ) → stored t long at kind n ≡ gives m → unstored t m ≡ readsAs kind n
-
--- ---- tables; a layout has 64 places
 
 -- demand 2: "Tables within the limits, read and rewritten without Binary columns at equal reference width, give back the bytes of their complete rows."
 -- With document 02, E6: "Rewriting now also reproduces complete rows with Binary columns, provided every such cell holds 0 or 1."
@@ -115,7 +105,7 @@ Stored t cells r c = refusalOf (stored (typeAt (typesOf t) c) (t .«long_string_
 -- what comes before the cell at row r, column c is not at fault: 20 and 19 of the columns, 14, 23, and, in column order, then row, the
 -- cells before it
 pub record First (t : Table) (rows : ℕ) (cells : Cells) (r c : ℕ) : Type 0 where
-  pub columns-sound : refusalOf (soundColumns 64 t) ≡ gives tt
+  pub columns-sound : refusalOf (soundColumns (t .columns) (t .count)) ≡ gives tt
   pub few : rows ≤ 65536
   pub kinds-all : length (cells .kinds) ≡ rows * t .count
   pub numbers-all : length (cells .numbers) ≡ rows * t .count

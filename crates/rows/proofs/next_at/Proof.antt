@@ -1,69 +1,34 @@
--- `rows::next_at` meets its contract. Assumes nothing.
-use Rattle.rows.proofs.Steps.{positive, step-end, step-to, step-past, step-cell, step-refused}
-use Rattle.table.proofs.Answers.{found}
-use Rattle.table.specs.Reading.{numRowsAnswer, cellReadAs}
-use Rattle.table.specs.Rows.{cellAt}
-use Rattle.table.specs.Layout.{typesOf}
+-- `rows::next_at` meets its contract.
+use Rattle.rows.proofs.Steps.{positive, read-some, read-none}
+use Rattle.rows.specs.Next.{another, nextOutcome}
+use Rattle.cell.specs.Kinds.{cellAs}
 use Rattle.common.specs.Answers.{gives}
-use lib.IntN.{ℤ, pos}
-use lib.ListN.{getD}
-use Rattle.rows.specs.Next.{cellsOf}
-use borrow.Author.Tests.{lt-ltb}
+use Prim.Native.Nat.{_+_, _<_}
 use native.Mathlib.Omega.{arith}
-use native.Mathlib.Nat.{mul-zero, mul-le-mul-right, mod-lt}
-use Prim.Native.Nat.{ℕ, _<_, _*_, _≤_, _/_, _%_}
 use mathlib.Core.Path.{_≡_, sym, _∙_}
 use borrow.Author.Needs.{needs}
 use Rattle.rows.proofs.next_at.Statement.{statement}
 use Rattle.rows.proofs.next_at.Tie as tie
 
-same : {x y : ℕ × ℤ} → gives x ≡ gives y → y ≡ x
-same e = cc
+-- a cell was read
+some : (c : tie.After-known-told2)
+    → let a = c .before .before .before .before .before .before .args in (nextOutcome (a .table) (a .stream .now) (a .at) ≡ (gives (another (cellAs (c .before .read2 .given .0 .0))), a .at + 1)) × (a .at < 4194304)
+some c =
+    let k = c .before .before .before in
+    let a = k .before .before .before .args in
+    read-some (a .table) (a .stream .now) (a .at) (positive _ (k .before .if1 .left)) _ (rw (c .before .read2 .given .1) at (k .read-cell .ensures))
 
-rows-are : (c : tie.After-known-told2) → numRowsAnswer (c .before .before .before .before .before .args .table) (c .before .before .before .before .before .args .stream .now) ≡ gives (c .before .counted2 .given .0 .0)
-rows-are c = sym (rw (c .before .counted2 .given .1) at (c .before .before .before .num-rows .ensures))
-
-few : (c : tie.After-known-told2) → c .before .counted2 .given .0 .0 * c .before .before .before .before .before .args .table .count ≤ 4194304
-few c =
-    let f = found (c .before .before .before .before .before .args .table) (c .before .before .before .before .before .args .stream .now) (c .before .counted2 .given .0 .0) (rows-are c) in
-    omega (arith, mul-le-mul-right {m = c .before .counted2 .given .0 .0} {n = 65536} (c .before .before .before .before .before .args .table .count) (f .few), f .sound .0)
-
--- the cell at the place
-here : (c : tie.Else2)
-    → (c .before .before .before .before .before .before .before .args .at < c .before .before .before .counted2 .given .0 .0 * c .before .before .before .before .before .before .before .args .table .count)
-    × (getD (cellsOf (c .before .before .before .before .before .before .before .args .table) (c .before .before .before .before .before .before .before .args .stream .now) (c .before .before .before .counted2 .given .0 .0)) (c .before .before .before .before .before .before .before .args .at) (0, pos 0)
-    ≡ cellAt (typesOf (c .before .before .before .before .before .before .before .args .table)) (c .before .before .before .before .before .before .before .args .table .«long_string_refs») (c .before .before .before .counted2 .given .0 .0) (c .before .before .before .before .before .before .before .args .stream .now) (c .before .before .before .before .before .before .before .args .at / c .before .before .before .before .before .before .before .args .table .count) (c .before .before .before .before .before .before .before .args .at % c .before .before .before .before .before .before .before .args .table .count))
-here c = step-cell (c .before .before .before .before .before .before .before .args .table) (c .before .before .before .before .before .before .before .args .stream .now) (c .before .before .before .before .before .before .before .args .at) (c .before .before .before .counted2 .given .0 .0) (rows-are (c .before .before)) (positive _ (c .before .if1 .left)) (c .if2 .left)
-
-cell-is : (c : tie.After-read-cell)
-    → cellReadAs (c .read-cell .result) ≡ gives (cellAt (typesOf (c .before .before .before .before .before .before .before .before .args .table)) (c .before .before .before .before .before .before .before .before .args .table .«long_string_refs») (c .before .before .before .before .counted2 .given .0 .0) (c .before .before .before .before .before .before .before .before .args .stream .now) (c .before .before .before .before .before .before .before .before .args .at / c .before .before .before .before .before .before .before .before .args .table .count) (c .before .before .before .before .before .before .before .before .args .at % c .before .before .before .before .before .before .before .before .args .table .count))
-cell-is c = c .read-cell .ensures ∙ rw (rows-are (c .before .before .before), lt-ltb _ _ (c .before .if2 .left), lt-ltb _ _ (mod-lt (c .before .before .before .before .before .before .before .before .args .at) (positive _ (c .before .before .if1 .left))))
-
-returns : tie.Need-returns
-returns c =
-    let z : c .before .before .counted2 .given .0 .0 * c .before .before .before .before .before .before .args .table .count ≡ 0 = rw (c .if1 .taken, mul-zero) in
-    sym (step-end (c .before .before .before .before .before .before .args .table) (c .before .before .before .before .before .before .args .stream .now) (c .before .before .before .before .before .before .args .at) (c .before .before .counted2 .given .0 .0) (rows-are (c .before)) (omega arith))
+add-t13 : tie.Need-add-t13
+add-t13 c = omega (arith, some c .1)
 
 returns-2 : tie.Need-returns-2
 returns-2 c =
-    let a = c .before .before .before .before .before .before .before .args in
-    sym (step-end (a .table) (a .stream .now) (a .at) (c .before .before .before .counted2 .given .0 .0) (rows-are (c .before .before)) (step-past (a .table) (a .stream .now) (a .at) (c .before .before .before .counted2 .given .0 .0) (rows-are (c .before .before)) (positive _ (c .before .if1 .left)) (c .if2 .taken)))
-
-add-t21 : tie.Need-add-t21
-add-t21 c = omega (arith, here (c .before .before .before .before) .0, few (c .before .before .before .before .before .before))
+    let k = c .before .before .before .before in
+    let a = k .before .before .before .args in
+    c .stopped .ensures ∙ read-none (a .table) (a .stream .now) (a .at) (positive _ (k .before .if1 .left)) _ _ (rw (c .before .before .read .given .1) at (k .read-cell .ensures))
 
 returns-3 : tie.Need-returns-3
-returns-3 c = step-refused (c .before .before .before .before .before .args .table) (c .before .before .before .before .before .args .stream .now) (c .before .before .before .before .before .args .at) _ _ (rw (c .before .counted .given .1) at (c .before .before .before .num-rows .ensures))
-
-returns-4 : tie.Need-returns-4
-returns-4 c = absurd (let e = rw (c .before .read .given .1) at (cell-is (c .before .before .before)) in let y : _≡_ {A = ℕ} 0 1 = cc in omega arith)
-
-returns-5 : tie.Need-returns-5
-returns-5 c =
-    let a = c .before .before .before .before .before .before .before .before .before .before .before .args in
-    let h = here (c .before .before .before .before) in
-    let e = rw (c .before .read2 .given .1) at (cell-is (c .before .before .before)) in
-    step-to (a .table) (a .stream .now) (a .at) (c .before .before .before .before .before .before .before .counted2 .given .0 .0) (rows-are (c .before .before .before .before .before .before)) _ _ (h .0) (h .1 ∙ same e) (omega arith)
+returns-3 c = sym (some c .0)
 
 pub next-at-spec : {M : Type 1} → statement M
 next-at-spec =
@@ -72,14 +37,11 @@ next-at-spec =
     (λ c κs. search needs)
     (λ c. search needs)
     (λ c. search needs)
-    returns
-    (λ c. search needs)
-    returns-2
     (λ c. search needs)
     (λ c κs. search needs)
     (λ c. search needs)
+    (λ c κs. search needs)
     (λ c. search needs)
-    add-t21
-    returns-3
-    returns-4
-    returns-5)
+    add-t13
+    returns-2
+    returns-3)

@@ -1,6 +1,6 @@
 -- `column_judge::judge_cells` meets its contract: what the cells that are left say, is what all say. Assumes nothing.
 use Rattle.table.proofs.Strides.{next-le, next-is}
-use Rattle.table.proofs.Each.{each-turn, each-stop, each-end}
+use Rattle.common.proofs.Answers.{each-turn, each-stop, each-end}
 use Rattle.table.specs.inner.Strides.{cellNumber}
 use Rattle.cell.proofs.Numbers.{handed-stored}
 use Rattle.cell.specs.Forms.{typeIn, longIn, storedAs}

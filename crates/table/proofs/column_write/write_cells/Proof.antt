@@ -1,5 +1,6 @@
 -- `column_write::write_cells` meets its contract. What is still to be written, put at the place, stays the same in each turn. Assumes nothing.
-use Rattle.table.proofs.Each.{from-next, fine-first}
+use Rattle.common.proofs.Lists.{from-next}
+use Rattle.common.proofs.Answers.{fine-first}
 use Rattle.table.proofs.Plain.{plain-turn, plain-end}
 use Rattle.table.proofs.Strides.{next-le, next-is}
 use Rattle.table.specs.inner.Columns.{givenBytes, plain}

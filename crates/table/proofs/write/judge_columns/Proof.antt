@@ -2,11 +2,11 @@
 use Rattle.cell.specs.Forms.{formFor}
 use Rattle.table.proofs.Column.{column-judged, table-judged}
 use Rattle.table.proofs.Layouts.{types-count}
-use Rattle.table.proofs.Each.{each-turn, each-stop, each-end}
+use Rattle.common.proofs.Answers.{each-turn, each-stop, each-end}
 use Rattle.table.specs.inner.Strides.{cellNumber}
 use Rattle.order.specs.Order.{fitsAs}
 use Rattle.table.specs.Writing.{Cells, columnBytes, tableBytes}
-use Rattle.table.specs.Rows.{typeAt}
+use Rattle.widths.specs.Widths.{typeAt}
 use Rattle.table.specs.Layout.{typesOf}
 use Rattle.common.specs.Answers.{Answer, refusalOf, each}
 use Rattle.common.specs.Lists.{from}
@@ -36,7 +36,7 @@ abbrev bytesIn : (c : tie.Start Inv-loop μ-loop) → ℕ → Answer (List ℕ)
 bytesIn c = columnBytes (typesOf (c .args .table)) (c .args .table .«long_string_refs») (c .args .rows) (cellsOf c)
 
 count-is : (c : tie.Start Inv-loop μ-loop) → length (typesOf (c .args .table)) ≡ c .args .table .count
-count-is c = types-count (c .args .table) (c .pre .0 .0) (rw length-map at (c .good .0 .1 .1 .0 .1 .0 .1))
+count-is c = types-count (c .args .table) (c .pre .0) (rw length-map at (c .good .0 .1 .1 .0 .1 .0 .1))
 
 whole : (c : tie.Start Inv-loop μ-loop) → refusalOf (each (bytesIn c) (from 0 (c .args .table .count))) ≡ refusalOf (tableBytes (typesOf (c .args .table)) (c .args .table .«long_string_refs») (c .args .rows) (cellsOf c))
 whole c =
@@ -57,13 +57,13 @@ said c =
 judge-column-requires : tie.Need-judge-column-requires Inv-loop μ-loop
 judge-column-requires c κs =
     let p = c .before .before .before .before .pre in
-    record { few = p .1; narrow = p .0 .0; kinds-are = p .2; numbers-are = p .3; below = c .before .loop-test .taken }
+    record { few = p .1; narrow = p .0; kinds-are = p .2; numbers-are = p .3; below = c .before .loop-test .taken }
 
 loop-holds : tie.Need-loop-holds Inv-loop μ-loop
 loop-holds c = (omega arith, rw sub-zero)
 
 form-at-requires : tie.Need-form-at-requires Inv-loop μ-loop
-form-at-requires c κs = (c .before .before .before .pre .0, c .loop-test .taken)
+form-at-requires c κs = (c .loop-test .taken, c .before .before .before .pre .0)
 
 returns : tie.Need-returns Inv-loop μ-loop
 returns c =

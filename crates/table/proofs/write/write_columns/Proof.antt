@@ -1,12 +1,13 @@
 -- `write::write_columns` meets its contract. What is still to be written, put at the place, stays the same in each turn. Assumes nothing.
 use Rattle.table.proofs.Column.{column-judged, column-bytes, column-length, column-within, size-next, table-judged}
 use Rattle.table.proofs.Layouts.{types-count}
-use Rattle.table.proofs.Each.{from-next, fine-first}
+use Rattle.common.proofs.Lists.{from-next}
+use Rattle.common.proofs.Answers.{fine-first}
 use Rattle.table.proofs.Plain.{plain-turn, plain-end}
 use Rattle.table.specs.inner.Strides.{formWidth, cellNumber, formBytes}
 use Rattle.table.specs.inner.Columns.{givenBytes, plain}
 use Rattle.table.specs.Writing.{Cells, columnBytes}
-use Rattle.table.specs.Rows.{rowSize, typeAt}
+use Rattle.widths.specs.Widths.{rowSize, typeAt}
 use Rattle.table.specs.Layout.{typesOf}
 use Rattle.cell.proofs.Cells.{form-width}
 use Rattle.cell.specs.Forms.{formFor}
@@ -41,7 +42,7 @@ abbrev bytesIn : (c : tie.Start Inv-loop μ-loop) → ℕ → Answer (List ℕ)
 bytesIn c = columnBytes (typesOf (c .args .table)) (c .args .table .«long_string_refs») (c .args .rows) (cellsOf c)
 
 count-is : (c : tie.Start Inv-loop μ-loop) → length (typesOf (c .args .table)) ≡ c .args .table .count
-count-is c = types-count (c .args .table) (c .pre .0 .0) (rw length-map at (c .good .0 .1 .1 .0 .1 .0 .1))
+count-is c = types-count (c .args .table) (c .pre .0) (rw length-map at (c .good .0 .1 .1 .0 .1 .0 .1))
 
 -- in a turn there is room for the column
 room : (c : tie.In-loop Inv-loop μ-loop) → c .before .loop .at + c .before .before .before .before .args .rows * width (typeAt (typesOf (c .before .before .before .before .args .table)) (c .before .loop .c)) (c .before .before .before .before .args .table .«long_string_refs») ≤ length (c .before .loop .out)
@@ -67,7 +68,7 @@ loop-holds c =
     (omega arith, sym (mul-zero (c .before .before .args .rows)), refl, rw sub-zero, rw sub-zero (rw (count-is (c .before .before)) at h))
 
 form-at-requires : tie.Need-form-at-requires Inv-loop μ-loop
-form-at-requires c κs = (c .before .before .before .before .pre .0, c .loop-test .taken)
+form-at-requires c κs = (c .loop-test .taken, c .before .before .before .before .pre .0)
 
 sub-write-column : tie.Need-sub-write-column Inv-loop μ-loop
 sub-write-column c = omega (arith, room (c .before))
@@ -91,7 +92,7 @@ write-column-requires c κs =
     let fine : refusalOf (each (cellNumber form (a .kinds .now) (a .numbers .now) (record { column = l .c; step = t .count; rows = a .rows })) (from 0 (a .rows))) ≡ gives tt =
     ap (λ (n : ℕ). refusalOf (each (cellNumber form (a .kinds .now) (a .numbers .now) (record { column = l .c; step = n; rows = a .rows })) (from 0 (a .rows)))) (sym (count-is s))
     ∙ sym (column-judged (typesOf t) long (a .rows) (cellsOf s) (l .c)) ∙ fine-now (c .before .before) .0 in
-    rw (c .before .form-at .ensures) (record { handed = record { few = s .pre .1; narrow = s .pre .0 .0; kinds-are = s .pre .2; numbers-are = s .pre .3; below = c .before .before .loop-test .taken }; room = room-is; fine = fine })
+    rw (c .before .form-at .ensures) (record { handed = record { few = s .pre .1; narrow = s .pre .0; kinds-are = s .pre .2; numbers-are = s .pre .3; below = c .before .before .loop-test .taken }; room = room-is; fine = fine })
 
 mul-at : tie.Need-mul-at Inv-loop μ-loop
 mul-at c = rw (width-is c) (omega (arith, room (c .before .before .before .before .before .before)))

@@ -1,6 +1,7 @@
 use Rattle.table.proofs.Bits.{bits-given, bits-bad, bits-turn, bits-stop, laid-stop, laid-done}
 -- `Table::from_bitfields` meets its contract: what the bitfields that are left make of the columns so far, is what all make. Assumes nothing.
-use Rattle.table.specs.Layout.{eachAt, unused}
+use Rattle.widths.specs.Judged.{eachAt}
+use Rattle.table.specs.Layout.{unused}
 use Rattle.column.specs.Columns.{building, bitsColumn, columnMadeAs}
 use Rattle.common.proofs.Parts.{over-none}
 use Rattle.common.specs.Answers.{gives, onGiven}

@@ -1,50 +1,44 @@
--- `Table::read_rows` meets its contract. Assumes nothing.
-use Rattle.table.proofs.Answers.{Found, found}
-use borrow.Author.Tests.{lt-ltb, le-ltb}
-use native.Mathlib.Omega.{arith}
-use native.Mathlib.Nat.{mul-le-mul-right}
-use Prim.Native.Nat.{_*_, _≤_}
-use mathlib.Core.Path.{sym}
+-- `Table::read_rows` meets its contract.
+use Rattle.widths.specs.declared.places.Places.{Places}
+use Rattle.widths.specs.Places.{placesOutcome}
+use Rattle.widths.proofs.Rows.{places-refused, places-given}
+use Rattle.table.proofs.Layouts.{lies}
+use Rattle.common.specs.Answers.{gives}
+use lib.ListN.{length}
+use mathlib.Core.Path.{_≡_}
 use borrow.Author.Needs.{needs}
 use Rattle.table.proofs.layout.Table.read_rows.Statement.{statement}
 use Rattle.table.proofs.layout.Table.read_rows.Tie as tie
 
-at-found : (c : tie.After-known-told2) → Found (c .before .before .before .before .before .before .args .self) (c .before .before .before .before .before .before .args .stream .now) (c .before .counted2 .given .0 .0)
-at-found c = found (c .before .before .before .before .before .before .args .self) (c .before .before .before .before .before .before .args .stream .now) (c .before .counted2 .given .0 .0) (sym (rw (c .before .counted2 .given .1) at (c .before .before .before .num-rows .ensures)))
+-- the places that were found
+abbrev at-start : tie.After-enum-told → tie.Start
+at-start c = c .before .before .before .before .before
 
-cells-few : (c : tie.After-known-told2) → c .before .counted2 .given .0 .0 * c .before .before .before .before .before .before .args .self .count ≤ 4194304
-cells-few c =
-    let f = at-found c in
-    omega (arith, mul-le-mul-right {m = c .before .counted2 .given .0 .0} {n = 65536} (c .before .before .before .before .before .before .args .self .count) (f .few), f .sound .0)
+abbrev places : tie.After-enum-told → Places
+places c = c .before .before .places-in .result .places
 
-mul-cells : tie.Need-mul-cells
-mul-cells c = omega (arith, cells-few (c .before))
+told : (c : tie.After-enum-told) → let t = at-start c .args .self in (gives tt, places c) ≡ placesOutcome (t .columns) (t .count) (t .«long_string_refs») (length (at-start c .args .stream .now))
+told c = rw (c .enum-told .given .1) at (c .before .before .places-in .ensures)
 
 returns : tie.Need-returns
 returns c =
-    let e = rw (c .before .before .before .counted2 .given .1) at (c .before .before .before .before .before .num-rows .ensures) in
-    rw (sym e, lt-ltb _ _ (c .if1 .taken))
+    let a = c .before .before .before .before .before .before .args in
+    let t = a .self in
+    rw (places-refused (t .columns) (t .count) (t .«long_string_refs») (length (a .stream .now)) _ _ _ (rw (c .before .verdict .given .1) at (c .before .before .before .places-in .ensures)))
+
+read-found-requires : tie.Need-read-found-requires
+read-found-requires c κs =
+    let k = c .before .before .before in
+    let a = at-start k .args in
+    lies (a .self) (length (a .stream .now)) (places k) (told k)
 
 returns-2 : tie.Need-returns-2
 returns-2 c =
-    let e = rw (c .before .before .before .before .counted2 .given .1) at (c .before .before .before .before .before .before .num-rows .ensures) in
-    rw (sym e, lt-ltb _ _ (c .if2 .taken), le-ltb _ _ (c .before .if1 .left))
-
-read-bands-requires : tie.Need-read-bands-requires
-read-bands-requires c κs =
-    let f = at-found (c .before .before .before .before .before) in
-    (f .sound, (f .small, rw (f .is) at (f .few)), f .is, c .before .before .before .if1 .left, c .before .before .if2 .left)
-
-returns-3 : tie.Need-returns-3
-returns-3 c =
-    let e = rw (c .before .counted .given .1) at (c .before .before .before .num-rows .ensures) in
-    rw (sym e)
-
-returns-4 : tie.Need-returns-4
-returns-4 c =
-    let e = rw (c .before .before .before .before .before .before .before .before .before .before .counted2 .given .1) at (c .before .before .before .before .before .before .before .before .before .before .before .before .num-rows .ensures) in
-    let put = c .before .before .before .read-bands .ensures in
-    rw (sym e, le-ltb _ _ (c .before .before .before .before .before .before .before .if1 .left), le-ltb _ _ (c .before .before .before .before .before .before .if2 .left), put .0, put .1)
+    let read = c .before .before .before in
+    let k = read .before .before .before .before in
+    let a = at-start k .args in
+    let t = a .self in
+    rw (places-given (t .columns) (t .count) (t .«long_string_refs») (length (a .stream .now)) (places k) (told k) .0) (read .read-found .ensures)
 
 pub read-rows-spec : {M : Type 1} → statement M
 read-rows-spec =
@@ -52,12 +46,9 @@ read-rows-spec =
     (tie.spec
     (λ c κs. search needs)
     (λ c. search needs)
-    (λ c. search needs)
-    mul-cells
     returns
-    returns-2
-    read-bands-requires
-    returns-3
+    (λ c. search needs)
+    read-found-requires
     (λ c. search needs)
     (λ c. search needs)
-    returns-4)
+    returns-2)

@@ -1,10 +1,10 @@
--- `read::column_start` meets its contract. Assumes nothing.
+-- `places::column_start` meets its contract.
 use native.Mathlib.Nat.{div-le-self, mul-le-mul}
 use native.Mathlib.Omega.{arith}
 use Prim.Native.Nat.{_*_, _/_, _≤_}
 use borrow.Author.Needs.{needs}
-use Rattle.table.proofs.read.column_start.Statement.{statement}
-use Rattle.table.proofs.read.column_start.Tie as tie
+use Rattle.widths.proofs.places.column_start.Statement.{statement}
+use Rattle.widths.proofs.places.column_start.Tie as tie
 
 -- no product of these is large
 small : (c : tie.Start) → let a = c .args in (a .bytes * a .before ≤ 68719476480) × (a .bytes / a .row-size * a .before ≤ 68719476480)

@@ -1,8 +1,8 @@
--- `read::rows_of` meets its contract. Assumes nothing.
+-- `places::rows_of` meets its contract.
 use borrow.Author.Tests.{eq-eqb, ne-eqb}
 use borrow.Author.Needs.{needs}
-use Rattle.table.proofs.read.rows_of.Statement.{statement}
-use Rattle.table.proofs.read.rows_of.Tie as tie
+use Rattle.widths.proofs.places.rows_of.Statement.{statement}
+use Rattle.widths.proofs.places.rows_of.Tie as tie
 
 returns : tie.Need-returns
 returns c = rw (eq-eqb _ _ (c .if1 .taken))

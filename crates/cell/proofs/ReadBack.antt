@@ -1,4 +1,4 @@
--- A cell written and read, a cell read and written: once over the half of an integer and the width of a reference. Assumes nothing.
+-- A cell written and read, a cell read and written: once over the half of an integer and the width of a reference.
 use mathlib.Core.Path.{_≡_, refl, sym, _∙_, ap}
 use mathlib.Core.Bool.{Bool, true, false, _||_}
 use Prim.Native.Nat.{ℕ, zero, suc, _+_, _<_, _≤_, _^_}
@@ -9,15 +9,14 @@ use lib.IntN.{ℤ, pos, negsuc, _-ℤ_}
 use lib.Signed.{mag}
 use Rattle.common.specs.Choice.{if_then_else_}
 use Rattle.common.specs.Answers.{Place, gives, refused}
 use Rattle.cell.specs.declared.form.ColumnType.{ColumnType}
 use Rattle.cell.specs.declared.form.ColumnType.the-variants.{Int16, Int32, Str, Binary}
-use Rattle.column.specs.Check.{isBinary}
-use Rattle.cell.specs.Cells.{width, integer, stored, unstored, integerCell, referenceCell, binaryCell, referenceNumber}
+use Rattle.cell.specs.Cells.{isBinary, width, integer, stored, unstored, integerCell, referenceCell, binaryCell, referenceNumber}
 use Rattle.cell.specs.inner.Signed.{biased, unbiased}
 use Rattle.cell.proofs.Halves.{sub-is, near-mag, near-unbiased, biased-lt, biased-some, unbiased-biased, biased-unbiased, integer-given}
 use Rattle.cell.proofs.Numbers.{integer-number, reference-number}
 use Rattle.cell.proofs.Cells.{reference-any, reference-short}
-use Rattle.table_promises.specs.Promises.{readsAs, CellReadBack}
+use Rattle.cell.specs.Promises.{readsAs, CellReadBack}
 
 abbrev nullOr : Bool → ℕ × ℤ → ℕ × ℤ
 nullOr b v = if b then (0, pos 0) else v

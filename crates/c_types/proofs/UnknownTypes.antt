@@ -13,7 +13,8 @@ use Rattle.common.specs.Answers.{Place, Answer, gives, refused, column, onGiven
 use Rattle.common.proofs.Outcomes.{refused-gives}
 use Rattle.column.specs.Columns.{building}
 use Rattle.cell.specs.declared.form.ColumnType.the-variants as types
-use Rattle.table.specs.Layout.{columnsOf, eachAt, soundColumn}
+use Rattle.widths.specs.Judged.{eachAt, soundColumn}
+use Rattle.table.specs.Layout.{columnsOf}
 use Rattle.c_types.specs.Columns.{coltypeIn, columnFrom, builderOut}
 use Rattle.c_types.specs.Promises.{UnknownType}
 use Rattle.c_types.specs.Tables.{tableIn}

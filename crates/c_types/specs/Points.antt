@@ -5,13 +5,12 @@ use mathlib.Core.Bool.{true, false}
 use mathlib.Core.List.{List, [], _∷_}
 use lib.IntN.{pos}
 use lib.ListN.{length}
-use Rattle.common.specs.Sizes.{maxColumns}
 use Rattle.common.specs.Answers.{Answer, gives, refused, nowhere, column, refusalOf}
 use Rattle.stringpool.specs.declared.pool.StringPool.{StringPool}
 use Rattle.stringpool.specs.Pool.{Rooms, rooms}
 use Rattle.pool_values.specs.Points.{OnState}
 use Rattle.column.specs.declared.column.Column.{Column}
-use Rattle.table.specs.Layout.{soundColumns}
+use Rattle.widths.specs.Judged.{soundColumns}
 use Rattle.c_types.specs.Tables.{tableIn, onTable}
 use Rattle.c_types.specs.Values.{createBy, removeBy, shownBy, textBy, checkBy}
 use Rattle.c_types.specs.declared.answers.ColumnParts.{ColumnParts}
@@ -57,7 +56,7 @@ CheckLast =
 abbrev pub judged : ℕ → List ColumnParts → Answer (List Column)
 judged n columns =
     let t : TableParts = record { columns = columns; count = n; «long_string_refs» = false } in
-    onTable t (soundColumns maxColumns (tableIn t))
+    onTable t (soundColumns (tableIn t .columns) (tableIn t .count))
 
 -- "13 or 19 at the first bad column", and 16 where its type is unknown: whichever the first bad one is; a column past those in use is not judged
 abbrev pub FirstBad : Type 0

@@ -6,7 +6,8 @@ use mathlib.Core.Path.{_≡_}
 use lib.ListN.{length, take}
 use Rattle.common.specs.Sizes.{maxColumns}
 use Rattle.common.specs.Answers.{gives, refused, column}
-use Rattle.table.specs.Layout.{columnsOf, eachAt, soundColumn, soundColumns}
+use Rattle.widths.specs.Judged.{eachAt, soundColumn, soundColumns}
+use Rattle.table.specs.Layout.{columnsOf}
 use Rattle.c_types.specs.Tables.{tableIn, typeHanded, onTable}
 use Rattle.cell.specs.Handed.{unknown}
 use Rattle.c_types.specs.declared.answers.TableParts.{TableParts}
@@ -15,4 +16,4 @@ use Rattle.c_types.specs.declared.answers.TableParts.{TableParts}
 abbrev pub UnknownType : Type 0
 UnknownType = (t : TableParts) (c : ℕ) → length (t .columns) ≡ maxColumns → t .count ≤ maxColumns → c < t .count
     → eachAt soundColumn 0 (take c (columnsOf (tableIn t))) ≡ gives (take c (columnsOf (tableIn t))) → unknown (typeHanded t c) ≡ true
-    → onTable t (soundColumns maxColumns (tableIn t)) ≡ refused 16 (column c)
+    → onTable t (soundColumns (tableIn t .columns) (tableIn t .count)) ≡ refused 16 (column c)

@@ -1,15 +1,10 @@
 -- The tests of a signed reference number, by its sign.
 use mathlib.Core.Path.{_≡_, refl}
 use mathlib.Core.Bool.{Bool, true, false}
-use Prim.Native.Nat.{ℕ}
-use native.Mathlib.Omega.{arith}
 use lib.IntN.{ℤ, pos, negsuc}
 use lib.Signed.{ltZ}
 use Rattle.common.specs.Answers.{gives, refused, nowhere}
 use Rattle.common.specs.Refs.{reference}
-
-no-eq : _≡_ {A = Bool} true false → ⊥
-no-eq q = let y : _≡_ {A = ℕ} 0 1 = cc in omega arith
 
 pub low : (z : ℤ) → ltZ z (pos 1) ≡ true → refused 8 nowhere ≡ reference nowhere z
 low (pos n) e = simp e
@@ -21,4 +16,4 @@ high (negsuc n) e f = refl
 
 pub within : (z : ℤ) → ltZ z (pos 1) ≡ false → ltZ (pos 16777215) z ≡ false → gives z ≡ reference nowhere z
 within (pos n) e f = simp (e, f)
-within (negsuc n) e f = absurd (no-eq e)
+within (negsuc n) e f = cc

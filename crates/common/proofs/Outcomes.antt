@@ -4,7 +4,7 @@ use Prim.Native.Nat.{ℕ, _≤_}
 use mathlib.Core.List.{List}
 use lib.ListN.{length}
 use borrow.Author.Tests.{ltb-false}
-use mathlib.Core.Bool.{Bool, true, false, not}
+use mathlib.Core.Bool.{Bool, true, false}
 use Rattle.common.specs.Choice.{if_then_else_, _<?_}
 use Rattle.common.specs.Lists.{_over_}
 use Rattle.common.specs.Answers.{Place, nowhere, Answer, gives, refused, onGiven, outcome, writtenTo}
@@ -19,11 +19,6 @@ pub data Case {A : Type 0} (x : Answer A) (y : A) (P : Type 0) : Type 0 where
 pub test : {A : Type 0} {x : Answer A} {y : A} {P : Type 0} (b : Bool) (n : ℕ) (at : Place) → (b ≡ false → Case x y P) → Case (if b then refused n at else x) y P
 test true n at f = no n at refl
 test false n at f = f refl
-
--- what is left of a test with `not`
-pub not-true : (b : Bool) → not b ≡ false → b ≡ true
-not-true true e = refl
-not-true false e = cc
 
 -- a refusal gives nothing
 pub refused-gives : {A : Type 0} {y : A} {n : ℕ} {at : Place} → refused n at ≡ gives y → ⊥

@@ -2,10 +2,11 @@
 use mathlib.Core.Path.{_≡_, refl}
 use Prim.Native.Nat.{ℕ, _≤_, _<_}
 use native.Mathlib.Omega.{arith}
-use mathlib.Core.Bool.{Bool, true, false, not, _&&_, _||_}
+use mathlib.Core.Bool.{Bool, not, _&&_, _||_}
 use lib.Dec.{ltb, leb, eqb}
 use borrow.Author.Tests.{ltb-false, leb-false, eqb-false, le-ltb}
 use Rattle.common.specs.Answers.{Answer, gives, refused, nowhere, onGiven}
+use Rattle.common.proofs.Bools.{neither}
 use Rattle.common.proofs.Outcomes.{Case, no, past}
 use Rattle.order.specs.Order.{pageFits, streamsFit, loadFits, textFits, addFits, dropFits}
 
@@ -17,23 +18,14 @@ ordered (refused n at) f = no n at refl
 pub page-fits : (page : ℕ) → pageFits page ≡ gives tt → page ≤ 2147483647
 page-fits page e = ltb-false _ _ (past (ltb 2147483647 page) 21 nowhere e .0)
 
--- of three, none
-true-false : true ≡ false → ⊥
-true-false e = let y : _≡_ {A = ℕ} 0 1 = cc in omega arith
-
-none-of : (a b c : Bool) → (a || b || c) ≡ false → (a ≡ false) × (b ≡ false) × (c ≡ false)
-none-of false false false e = (refl, refl, refl)
-none-of false false true e = absurd (true-false e)
-none-of false true c e = absurd (true-false e)
-none-of true b c e = absurd (true-false e)
-
 pub streams-fit : (pool stream text : ℕ) → streamsFit pool stream text ≡ gives tt
     → (pool ≤ 268435455) × (stream ≤ 268435455) × (text ≤ 268435455) × (4 ≤ pool)
 streams-fit pool stream text e =
     let a = past (ltb 268435455 pool || ltb 268435455 stream || ltb 268435455 text) 22 nowhere e in
     let b = past (ltb pool 4) 1 nowhere (a .1) in
-    let n = none-of (ltb 268435455 pool) (ltb 268435455 stream) (ltb 268435455 text) (a .0) in
-    (ltb-false _ _ (n .0), ltb-false _ _ (n .1), ltb-false _ _ (n .2), ltb-false _ _ (b .0))
+    let n = neither (ltb 268435455 pool || ltb 268435455 stream) (ltb 268435455 text) (a .0) in
+    let m = neither (ltb 268435455 pool) (ltb 268435455 stream) (n .0) in
+    (ltb-false _ _ (m .0), ltb-false _ _ (m .1), ltb-false _ _ (n .1), ltb-false _ _ (b .0))
 
 pub streams-do : (pool stream text : ℕ) → pool ≤ 268435455 → stream ≤ 268435455 → text ≤ 268435455 → 4 ≤ pool → streamsFit pool stream text ≡ gives tt
 streams-do pool stream text a b c d = simp (le-ltb _ _ a, le-ltb _ _ b, le-ltb _ _ c, le-ltb _ _ d)

@@ -4,14 +4,15 @@ use Prim.Native.Nat.{ℕ, zero, suc, _+_, _-_, _≤_, _<_}
 use native.Mathlib.Nat.{add-zero, zero-add}
 use native.Mathlib.Numerals.{add-one}
 use native.Mathlib.Omega.{arith}
+use mathlib.Core.Logic.{⊎-elim}
 use mathlib.Core.Bool.{Bool, true, false, _||_}
 use mathlib.Core.List.{List, [], _∷_}
 use lib.ListN.{length, take, drop, getD, length-drop}
 use lib.Seq.{drop-cons, drop-length, length-take-le}
-use lib.Dec.{ltb}
-use borrow.Author.Tests.{ltb-true, ltb-false, le-ltb, lt-ltb, eq-eqb, ne-eqb}
+use borrow.Author.Tests.{le-ltb, lt-ltb, eq-eqb, ne-eqb}
 use Rattle.common.specs.Choice.{if_then_else_}
 use Rattle.common.specs.Lists.{total}
+use Rattle.common.proofs.Bools.{lt-or-le}
 use Rattle.common.proofs.Sums.{total-in}
 use Rattle.common.specs.Answers.{Answer, gives, refused, nowhere}
 use Rattle.pool_entries.specs.Sound.{onSoundRooms}
@@ -28,42 +29,34 @@ use Rattle.pool_entries.proofs.Sound.{small-counted}
 -- ---- counts and lengths, one more
 
 pub counted-next : (cs : List ℕ) (from i : ℕ) → Counted cs from i → 0 < getD cs i 0 → Counted cs from (i + 1)
-counted-next cs from i h g k a b = go (ltb k i) refl
-  where
-    go : (t : Bool) → ltb k i ≡ t → 0 < getD cs k 0
-    go true f = h k a (ltb-true k i f)
-    go false f = let e : k ≡ i = omega (arith, ltb-false k i f) in rw e g
+counted-next cs from i h g k a b = ⊎-elim (h k a) (λ l. let e : k ≡ i = omega arith in rw e g) (lt-or-le k i)
 
 pub others-next : (ls : List ℕ) (size from i : ℕ) → Others ls size from i → (getD ls i 0 ≡ size → ⊥) → Others ls size from (i + 1)
-others-next ls size from i h g k a b = go (ltb k i) refl
-  where
-    go : (t : Bool) → ltb k i ≡ t → getD ls k 0 ≡ size → ⊥
-    go true f = h k a (ltb-true k i f)
-    go false f = let e : k ≡ i = omega (arith, ltb-false k i f) in rw e g
+others-next ls size from i h g k a b = ⊎-elim (h k a) (λ l. let e : k ≡ i = omega arith in rw e g) (lt-or-le k i)
 
 pub sum-next : (ls : List ℕ) (i s x : ℕ) → i < length ls → x ≡ getD ls i 0 → x ≤ 4294967295 → SumTo ls i s → SumTo ls (i + 1) (s + x)
 sum-next ls i s x h e g a = record { is = omega (arith, a .is, total-next ls i (i + 1) refl h); few = omega (arith, a .few) }
 
 -- none is passed by, or one more
-pub pass-none : (ls : List ℕ) (size from to s : ℕ) → from ≤ to → SumTo ls from s → PassedBy ls size from to from s
-pass-none ls size from to s h a = record { after = omega arith; within = h; others = λ k x y. absurd (omega arith); sum = a }
+pub pass-none : {ls : List ℕ} {size from to s : ℕ} → from ≤ to → SumTo ls from s → PassedBy ls size from to from s
+pass-none h a = record { after = omega arith; within = h; others = λ k x y. absurd (omega arith); sum = a }
 
-pub pass-next : (ls : List ℕ) (size from to i s x k r : ℕ) → i < to → to ≤ length ls → x ≡ getD ls i 0 → x ≤ 4294967295 → (x ≡ size → ⊥)
-    → k ≡ i + 1 → r ≡ s + x → PassedBy ls size from to i s → PassedBy ls size from to k r
-pass-next ls size from to i s x k r h g e b d p q a = record {
+pub pass-next : {ls : List ℕ} {size from to i s x k r : ℕ} → PassedBy ls size from to i s → x ≡ getD ls i 0 → (x ≡ size → ⊥)
+    → i < to → to ≤ length ls → x ≤ 4294967295 → k ≡ i + 1 → r ≡ s + x → PassedBy ls size from to k r
+pass-next {ls} {size} {from} {to} {i} {s} {x} {k} {r} a e d h g b p q = record {
   after = omega (arith, a .after);
   within = omega arith;
   others = λ j u v. others-next ls size from i (a .others) (λ z. d (e ∙ z)) j u (omega arith);
   sum = record { is = omega (arith, a .sum .is, total-next ls i k p (omega arith)); few = omega (arith, a .sum .few) };
 }
 
--- the same sum by another name
-pub pass-as : (ls : List ℕ) (size from to k s r : ℕ) → r ≡ s → PassedBy ls size from to k s → PassedBy ls size from to k r
-pass-as ls size from to k s r e a = record {
-  after = a .after;
-  within = a .within;
-  others = a .others;
-  sum = record { is = omega (arith, a .sum .is); few = omega (arith, a .sum .few) };
+-- some, and then some more
+pub pass-join : {ls : List ℕ} {size from to i s mid k r : ℕ} → PassedBy ls size from to i s → PassedBy ls size i mid k r → mid ≤ to → PassedBy ls size from to k r
+pass-join {i = i} a b h = record {
+  after = omega (arith, a .after, b .after);
+  within = omega (arith, b .within);
+  others = λ j x y. ⊎-elim (λ z. a .others j x z) (λ z. b .others j z y) (lt-or-le j i);
+  sum = b .sum;
 }
 
 -- ---- the choice, entry by entry

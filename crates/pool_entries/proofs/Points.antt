@@ -2,7 +2,7 @@
 use mathlib.Core.Path.{_≡_, refl, sym, ap, ap₂, _∙_}
 use Prim.Native.Nat.{ℕ}
 use native.Mathlib.Omega.{arith}
-use mathlib.Core.Bool.{Bool, true, false, not, _&&_, _||_}
+use mathlib.Core.Bool.{Bool, true, false, not, _&&_, _||_, and-false, and-true}
 use mathlib.Core.List.{List, [], _∷_}
 use lib.ListN.{length, take}
 use borrow.Author.Tests.{le-leb, lt-leb, le-ltb, lt-ltb}
@@ -14,10 +14,6 @@ use Rattle.pool_entries.specs.Sound.{soundRooms}
 use Rattle.pool_entries.specs.inner.Sound.{smallB, fitsB}
 use Rattle.pool_entries.proofs.Sound.{sound-same, judge-size}
 use Rattle.pool_entries.specs.Points.{AsMany, TextAtSize, SizeFirst, TextFirst, EntriesFit, TooMany, CodePage, LengthsSum, FreeBytes, CountsUp, FirstOfThem}
-
-and-false : (a : Bool) → (a && false) ≡ false
-and-false true = refl
-and-false false = refl
 
 -- one entry, by its length and its count
 one-entry : (ts : List ℕ) (l c : ℕ) (is : Bool) → length ts ≡ l → smallB l c ≡ is → total (l ∷ []) ≡ l → soundRooms 1 0 (rooms (l ∷ []) (c ∷ []) ts) ≡ is
@@ -69,10 +65,6 @@ counts-up = (refl, refl, refl, refl)
 pub first-of-them : FirstOfThem
 unfolding soundRooms
 first-of-them = (refl, refl, refl, refl, refl)
-
-and-true : (a : Bool) → (a && true) ≡ a
-and-true true = refl
-and-true false = refl
 
 pub as-many : AsMany
 unfolding soundRooms

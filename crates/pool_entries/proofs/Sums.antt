@@ -3,29 +3,20 @@ use mathlib.Core.Path.{_≡_, refl, ap, _∙_}
 use Prim.Native.Nat.{ℕ, _+_, _%_, _≤_, _<_, _^_}
 use native.Mathlib.Numerals.{add-one}
 use native.Mathlib.Omega.{arith}
-use mathlib.Core.Bool.{Bool, true, false}
+use mathlib.Core.Logic.{⊎-elim}
 use mathlib.Core.List.{List}
 use lib.ListN.{length, take, getD}
 use lib.Bits.{bitOr, or-add-and, and-le-l, and-le-r}
-use lib.Dec.{ltb}
-use borrow.Author.Tests.{ltb-true, ltb-false}
 use Rattle.common.specs.Lists.{total}
+use Rattle.common.proofs.Bools.{lt-or-le}
 use Rattle.common.proofs.Sums.{total-suc}
 use Rattle.pool_entries.specs.inner.Adding.{Short, Tallied}
 
 pub short-next : (ls : List ℕ) (from i : ℕ) → Short ls from i → getD ls i 0 ≤ 65535 → Short ls from (i + 1)
-short-next ls from i h g k a b = go (ltb k i) refl
-  where
-    go : (t : Bool) → ltb k i ≡ t → getD ls k 0 ≤ 65535
-    go true f = h k a (ltb-true k i f)
-    go false f = let e : k ≡ i = omega (arith, ltb-false k i f) in rw e g
+short-next ls from i h g k a b = ⊎-elim (h k a) (λ l. let e : k ≡ i = omega arith in rw e g) (lt-or-le k i)
 
 pub short-join : (ls : List ℕ) (from i to : ℕ) → Short ls from i → Short ls i to → Short ls from to
-short-join ls from i to h g k a b = go (ltb k i) refl
-  where
-    go : (t : Bool) → ltb k i ≡ t → getD ls k 0 ≤ 65535
-    go true f = h k a (ltb-true k i f)
-    go false f = g k (ltb-false k i f) b
+short-join ls from i to h g k a b = ⊎-elim (h k a) (λ l. g k l b) (lt-or-le k i)
 
 pub total-next : (ls : List ℕ) (i j : ℕ) → j ≡ i + 1 → i < length ls → total (take j ls) ≡ total (take i ls) + getD ls i 0
 total-next ls i j e h = ap (λ (k : ℕ). total (take k ls)) (e ∙ add-one i) ∙ total-suc ls i h

@@ -8,7 +8,7 @@ use mathlib.Core.List.{List, [], _∷_, _++_, map}
 use lib.ListN.{length, getD, set, length-set}
 use lib.IntN.{ℤ, pos, negsuc, natAbs}
 use lib.Dec.{leb, ltb, eqb, eqb·suc-suc}
-use borrow.Author.Tests.{leb-true, leb-false, ltb-true, ltb-false, le-ltb, ne-eqb}
+use borrow.Author.Tests.{leb-true, leb-false, ltb-true, ltb-false, le-ltb, ne-eqb, not-false}
 use Rattle.common.specs.Choice.{if_then_else_}
 use Rattle.common.specs.Answers.{Answer, gives, refused, Place, nowhere, onGiven, outcome}
 use Rattle.stringpool.specs.Pool.{Entry, Rooms, entriesOf, putBack, texts, entryRoom, sound, onSound}
@@ -23,6 +23,7 @@ use Rattle.stringpool.specs.declared.pool.StringPool.{StringPool}
 use Rattle.stringpool.proofs.Entries.{length-entries, length-texts-at, length-at}
 use Rattle.common.proofs.Sums.{total-in}
 use Rattle.stringpool_promises.proofs.Lists.{entries-put}
+use Rattle.common.proofs.Bools.{neither}
 use Rattle.common.proofs.Outcomes.{Case, no, yes, test, not-true}
 use Rattle.order.specs.Order.{addFits, textFits, dropFits}
 use Rattle.order.proofs.Laws.{ordered, add-fits, text-fits, drop-fits}
@@ -35,7 +36,7 @@ use Rattle.stringpool_promises.proofs.Kept.{small-taken, small-dropped,
 -- both tests of a sound pool
 pub on-sound : {A : Type 0} {x : Answer A} {y : A} {P : Type 0} (p : StringPool) (w : Rooms)
     → (length (w .text) ≤ 268435455 → sound p w ≡ true → Case x y P) → Case (onSound p w x) y P
-on-sound p w f = test _ 22 nowhere (λ a. test _ 24 nowhere (λ b. f (ltb-false _ _ a) (not-true (sound p w) b)))
+on-sound p w f = test _ 22 nowhere (λ a. test _ 24 nowhere (λ b. f (ltb-false _ _ a) (not-false (sound p w) b)))
 
 -- what is known after an accepted take at the place k
 pub record Took (p : StringPool) (w : Rooms) (t : List ℕ) (k : ℕ) : Type 0 where
@@ -97,14 +98,6 @@ pub record DidDrop (p : StringPool) (w : Rooms) (r : ℤ) : Type 0 where
   pub number : r ≡ pos (placeOf r + 1)
   pub inside : placeOf r < length (entriesOf p w)
   pub counted : 0 < getD (entriesOf p w) (placeOf r) none .count
-
--- either of two tests
-neither : (a b : Bool) → (a || b) ≡ false → (a ≡ false) × (b ≡ false)
-neither true b e = (e, absurd (go e))
-  where
-    go : _≡_ {A = Bool} true false → ⊥
-    go q = let y : _≡_ {A = ℕ} 0 1 = cc in omega arith
-neither false b e = (refl, e)
 
 abbrev lessenedAt : StringPool → Rooms → ℕ → List Entry
 lessenedAt p w k = set (entriesOf p w) k (lessened (getD (entriesOf p w) k none))

@@ -8,6 +8,7 @@ use borrow.Author.Tests.{le-ltb, ltb-false}
 use Rattle.common.specs.Lists.{_over_}
 use Rattle.common.specs.Answers.{Answer, gives, nowhere, onGiven, outcome, writtenTo}
 use Rattle.common.proofs.Parts.{paste-over}
+use Rattle.common.proofs.Bools.{neither}
 use Rattle.common.proofs.Outcomes.{past}
 use Rattle.order.proofs.Laws.{text-fits}
 use mathlib.Core.List.{List, _++_, append-assoc, append-nil}
@@ -95,10 +96,6 @@ pub record Fits (room start old used size : ℕ) : Type 0 where
   pub within : used ≤ room
   pub roomy : used - old + size ≤ room
 
-neither : (a b : Bool) → (a || b) ≡ false → (a ≡ false) × (b ≡ false)
-neither true b e = absurd (let y : _≡_ {A = ℕ} 0 1 = cc in omega arith)
-neither false b e = (refl, e)
-
 pub fits-so : (room start old used size : ℕ) → replaceFits room start old used size ≡ gives tt → Fits room start old used size
 fits-so room start old used size e =
     let a = past (ltb 268435455 room || ltb 268435455 size) 22 nowhere e in
@@ -125,7 +122,3 @@ copy-small bytes out small = simp (le-ltb _ _ small)
 -- and so they are where they have
 pub copied : (bytes out : List ℕ) → length bytes ≤ 268435455 → length bytes ≤ length out → copyOutcome bytes out ≡ (gives (length bytes), bytes over out)
 copied bytes out small room = simp (le-ltb _ _ small, le-ltb _ _ room)
-
--- the copy, by its stores
-pub copied-front : (bytes out : List ℕ) → length bytes ≤ length out → paste out 0 bytes (length bytes) ≡ bytes over out
-copied-front bytes out room = paste-over 0 (length bytes) bytes out (omega arith) ∙ ap (λ (x : List ℕ). x over out) (take-length bytes)

@@ -1,10 +1,11 @@
-use mathlib.Core.Path.{sym, ap, _∙_}
+use mathlib.Core.Path.{refl, sym, ap, _∙_}
 use Prim.Native.Nat.{ℕ}
 use mathlib.Core.List.{List}
 use lib.ListN.{length}
 use borrow.Author.Tests.{lt-ltb, le-ltb}
 use Rattle.common.specs.Answers.{gives}
-use Rattle.text_room.proofs.Splice.{copied, copied-front}
+use Rattle.common.proofs.Parts.{paste-front}
+use Rattle.text_room.proofs.Splice.{copied}
 use borrow.Author.Needs.{needs}
 use Rattle.text_room.proofs.text.copy_in.Statement.{statement}
 use Rattle.text_room.proofs.text.copy_in.Tie as tie
@@ -26,7 +27,7 @@ returns-3 c =
     let s = c .before .before .before .before .before .before .before .before in
     let small = c .before .before .before .before .before .if1 .left in
     let room = c .before .before .before .before .if2 .left in
-    ap (λ (x : List ℕ). (gives (length (s .args .bytes .now)), x)) (c .before .before .copy .ensures ∙ copied-front (s .args .bytes .now) (s .args .out .now) room)
+    ap (λ (x : List ℕ). (gives (length (s .args .bytes .now)), x)) (c .before .before .copy .ensures ∙ paste-front (s .args .bytes .now) (s .args .out .now) _ refl)
     ∙ sym (copied (s .args .bytes .now) (s .args .out .now) small room)
 
 pub copy-in-spec : {M : Type 1} → statement M

@@ -12,6 +12,7 @@ use borrow.Author.Tests.{lt-ltb, le-ltb, ltb-false, eq-eqb, ne-eqb}
 use Rattle.common.specs.Choice.{if_then_else_}
 use Rattle.common.specs.Lists.{total}
 use Rattle.common.specs.Answers.{Answer, gives, refused, nowhere, onGiven}
+use Rattle.common.proofs.Bools.{clash}
 use Rattle.common.proofs.Outcomes.{refused-gives}
 use Rattle.little_endian.specs.Numbers.{numberAt}
 use Rattle.pool_stream.specs.Entries.{Found, one, cut, ends, entryIn, withEntry, onFound, entriesIn, poolEntries}
@@ -69,12 +70,6 @@ module _ (s : List ℕ) where
         found-wide h' x ex =
             ap₂ (λ (a b : ℕ). one a b true 8) ex ec ∙ sym (passed ∙ ap₂ (λ (a b : Bool). By s false false a b) wide-is (le-ltb (length s) 8 h'))
 
-pub ends-one : {k l c : ℕ} {w : Bool} {n : ℕ} → ends k ≡ one l c w n → ⊥
-ends-one e = let y : _≡_ {A = ℕ} 0 1 = cc in omega arith
-
-pub cut-one : {l c : ℕ} {w : Bool} {n : ℕ} → cut ≡ one l c w n → ⊥
-cut-one e = let y : _≡_ {A = ℕ} 0 1 = cc in omega arith
-
 abbrev sizeBy : Found → ℕ
 sizeBy (one l c w n) = n
 sizeBy cut = 0
@@ -85,9 +80,9 @@ pub found-size : (s : List ℕ) (l c : ℕ) (w : Bool) (n : ℕ) → entryIn s �
 found-size s l c w n e = go (ltb (length s) 2) (ltb (length s) 4) (Wide s) (ltb (length s) 8) refl refl e
   where
     go : (p q r t : Bool) → ltb (length s) 4 ≡ q → ltb (length s) 8 ≡ t → By s p q r t ≡ one l c w n → (4 ≤ n) × (n ≤ length s)
-    go true q r t f g h = absurd (ends-one h)
-    go false true r t f g h = absurd (cut-one h)
-    go false false true true f g h = absurd (cut-one h)
+    go true q r t f g h = clash (cc)
+    go false true r t f g h = clash (cc)
+    go false false true true f g h = clash (cc)
     go false false true false f g h = omega (arith, ap sizeBy h, ltb-false (length s) 8 g)
     go false false false t f g h = omega (arith, ap sizeBy h, ltb-false (length s) 4 f)
 
@@ -131,9 +126,6 @@ module _ (s : List ℕ) (n t at : ℕ) (h : n < length s) (inv : sizesOf (poolEn
 
 -- ---- the entries, one by one
 
-nil-cons : {l : ℕ} {ls : List ℕ} → _≡_ {A = List ℕ} [] (l ∷ ls) → ⊥
-nil-cons e = let y : _≡_ {A = ℕ} 0 1 = cc in omega arith
-
 -- the entry at i, and those that follow it
 pub record OneMore (s : List ℕ) (f next : ℕ) (ls cs : List ℕ) (i l c : ℕ) : Type 0 where
   pub lens : l ≡ getD ls i 0
@@ -176,7 +168,7 @@ module _ (s : List ℕ) (f at : ℕ) (ls cs : List ℕ) (i : ℕ) (hl : i < leng
   is-one (One l c w k) r = (l, c, w, k, refl)
   is-one Cut r = absurd (refused-gives (ap (λ (x : Found). onFound x After) r ∙ e))
   is-one (End k) r =
-      absurd (nil-cons (ap (λ (a : Answer (List ℕ × List ℕ)). orNone a .0) (ap (λ (x : Found). onFound x After) r ∙ e) ∙ drop-cons ls i 0 hl))
+      clash (cc (ap (λ (a : Answer (List ℕ × List ℕ)). orNone a .0) (ap (λ (x : Found). onFound x After) r ∙ e) ∙ drop-cons ls i 0 hl))
 
 -- as many counts as lengths
 abbrev Even : Answer (List ℕ × List ℕ) → Type 0

@@ -24,7 +24,7 @@ use Rattle.stringpool.proofs.Entries.{length-entries, length-texts-at, length-a
 use Rattle.common.proofs.Sums.{total-in}
 use Rattle.stringpool_promises.proofs.Lists.{entries-put}
 use Rattle.common.proofs.Bools.{neither}
-use Rattle.common.proofs.Outcomes.{Case, no, yes, test, not-true}
+use Rattle.common.proofs.Outcomes.{Case, no, yes, test}
 use Rattle.order.specs.Order.{addFits, textFits, dropFits}
 use Rattle.order.proofs.Laws.{ordered, add-fits, text-fits, drop-fits}
 use Rattle.stringpool_promises.proofs.Sounds.{SoundFit, sound-fits, fit-sound}

@@ -22,7 +22,8 @@ use Rattle.stringpool.specs.inner.Entries.{lengthsOf, countsOf}
 use Rattle.pool_stream.specs.inner.Write.{entriesBytes, streamBy}
 use Rattle.stringpool.specs.declared.pool.StringPool.{StringPool}
 use Rattle.stringpool.proofs.Entries.{both, lengths-cut, counts-cut, texts-cut}
-use Rattle.pool_entries.proofs.Sound.{then-second, false-true}
+use Rattle.pool_entries.proofs.Sound.{then-second}
+use Rattle.common.proofs.Bools.{clash, both-true}
 use Rattle.pool_stream.proofs.Writing.{is-narrow, is-wide, length-narrow, length-wide, length-entry, write-done}
 use Rattle.pool_stream.proofs.Writing.{stream-same}
 use Rattle.stringpool_promises.specs.Promises.{SoundState, Counts16, ReadsBack, Writes}
@@ -71,7 +72,7 @@ read-narrow l c r h w =
     ap entryIn e ∙ past s (omega arith) ∙ ap (λ (x : Bool). By s x (ltb (length s) 8)) t ∙ ap₂ (λ (x y : ℕ). one x y false 4) a b
   where
     free : (b : Bool) → ltb 0 c ≡ b → b ≡ false → l ≤ 65535
-    free true f g = absurd (false-true (sym g))
+    free true f g = clash (cc)
     free false f g = h .small (omega (arith, ltb-false 0 c f))
 
     go : (b : Bool) → leb l 65535 ≡ b → (eqb (if b then l else 0) 0 && ltb 0 c) ≡ false → l ≤ 65535
@@ -90,10 +91,6 @@ read-wide l c r h w =
     let d : numberAt 4 s 4 ≡ l = number-past 4 (bytesOf 2 0 ++ bytesOf 2 c) (bytesOf 4 l ++ r) 0 4 refl ∙ read-back 4 l r (h .long) in
     let t : (eqb (numberAt 2 s 0) 0 && ltb 0 (numberAt 2 s 2)) ≡ true = ap₂ (λ (x y : ℕ). eqb x 0 && ltb 0 y) a b ∙ q .1 in
     ap entryIn e ∙ past s (omega arith) ∙ ap₂ (λ (x y : Bool). By s x y) t (le-ltb (length s) 8 (omega arith)) ∙ ap₂ (λ (x y : ℕ). one x y true 8) d b
-  where
-    both-true : (a b : Bool) → (a && b) ≡ true → (a ≡ true) × (b ≡ true)
-    both-true true b e = (refl, e)
-    both-true false b e = absurd (false-true e)
 
 -- ---- all entries
 

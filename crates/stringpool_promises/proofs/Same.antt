@@ -9,6 +9,7 @@ use lib.Dec.{ltb, leb, eqb}
 use lib.ListN.{length, take, drop, length-drop, length-append, take-append-drop}
 use lib.Seq.{length-take-le, take-all, take-at, take-add}
 use borrow.Author.Tests.{leb-true, leb-false, lt-ltb, le-ltb, le-leb, eqb-true, eq-eqb, ne-eqb}
+use Rattle.common.proofs.Lists.{no-length}
 use Rattle.common.specs.Choice.{if_then_else_}
 use Rattle.common.specs.Lists.{_over_, total}
 use Rattle.common.specs.Answers.{Answer, gives}
@@ -92,14 +93,10 @@ WrittenFound f s v x =
     (length (entriesBytes (x .0) (x .1)) + addFound stray v (λ k. addIn stray f (drop k s)) + 4 * addFound shortWide v (λ k. addIn shortWide f (drop k s)) ≡ length s)
     × (addFound stray v (λ k. addIn stray f (drop k s)) ≡ 0 → addFound shortWide v (λ k. addIn shortWide f (drop k s)) ≡ 0 → entriesBytes (x .0) (x .1) ≡ s)
 
-no-bytes : (s : List ℕ) → length s ≡ 0 → _≡_ {A = List ℕ} [] s
-no-bytes [] e = refl
-no-bytes (x ∷ s) e = absurd (omega arith)
-
 by-view : (f : ℕ) (s : List ℕ) → AreBytes s → ((k : ℕ) (y : List ℕ × List ℕ) → entriesIn f (drop k s) ≡ gives y → Written f (drop k s) y)
     → {v : Found} → View s v → (x : List ℕ × List ℕ) → onFound v (λ k. entriesIn f (drop k s)) ≡ gives x → WrittenFound f s v x
 by-view f s b ih (at-end h) x q =
-    subst (WrittenFound f s (ends (length s))) (ap (given x) q) (omega arith, λ e g. no-bytes s (omega arith))
+    subst (WrittenFound f s (ends (length s))) (ap (given x) q) (omega arith, λ e g. sym (no-length s (omega arith)))
 by-view f s b ih is-cut x q = absurd (refused-gives q)
 by-view f s b ih (narrow h z) x q =
     let l : ℕ = numberAt 2 s 0 in

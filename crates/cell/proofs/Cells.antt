@@ -11,6 +11,7 @@ use mir.Syntax.{w32}
 use mir.Val.{Fits}
 use Rattle.common.specs.Choice.{if_then_else_}
 use Rattle.common.specs.Answers.{Place, nowhere, gives, refused}
+use Rattle.common.proofs.Bools.{clash}
 use Rattle.common.specs.Refs.{reference}
 use Rattle.cell.specs.declared.form.ColumnType.{ColumnType}
 use Rattle.cell.specs.declared.form.ColumnType.the-variants.{Int16, Int32, Str, Binary}
@@ -70,8 +71,8 @@ pub good : (z w : ℤ) → gives w ≡ reference nowhere z → Good z w
 good z w e = go (ltZ z (pos 1)) (ltZ (pos 16777215) z) refl refl e
   where
     go : (a b : Bool) → ltZ z (pos 1) ≡ a → ltZ (pos 16777215) z ≡ b → gives w ≡ (if a || b then refused 8 nowhere else gives z) → Good z w
-    go true b p q r = absurd (let y : _≡_ {A = ℕ} 0 1 = cc in omega arith)
-    go false true p q r = absurd (let y : _≡_ {A = ℕ} 0 1 = cc in omega arith)
+    go true b p q r = clash (cc)
+    go false true p q r = clash (cc)
     go false false p q r = record { same = cc; low = p; high = q }
 
 module _ (long : Bool) (at : Place) (z : ℤ) where
@@ -80,14 +81,14 @@ module _ (long : Bool) (at : Place) (z : ℤ) where
     where
       go : (a : Bool) → (ltZ z (pos 1) || ltZ (pos 16777215) z) ≡ a → refused n p ≡ (if a then refused 8 nowhere else gives z) → refused 8 at ≡ referenceNumber long at z
       go true q r = rw q
-      go false q r = absurd (let y : _≡_ {A = ℕ} 0 1 = cc in omega arith)
+      go false q r = clash (cc)
 
   pub reference-long : ltZ z (pos 1) ≡ false → ltZ (pos 16777215) z ≡ false → long ≡ false → 65535 < natAbs z → refused 18 at ≡ referenceNumber long at z
   reference-long l h s m = go z l h m
     where
       go : (y : ℤ) → ltZ y (pos 1) ≡ false → ltZ (pos 16777215) y ≡ false → 65535 < natAbs y → refused 18 at ≡ referenceNumber long at y
       go (pos n) l′ h′ m′ = rw (l′, h′, s, lt-ltb 65535 n m′)
-      go (negsuc n) l′ h′ m′ = absurd (let q : _≡_ {A = ℕ} 0 1 = cc in omega arith)
+      go (negsuc n) l′ h′ m′ = clash (cc)
 
   pub reference-any : ltZ z (pos 1) ≡ false → ltZ (pos 16777215) z ≡ false → long ≡ true → gives (natAbs z) ≡ referenceNumber long at z
   reference-any l h s = rw (l, h, s)
@@ -98,13 +99,13 @@ module _ (long : Bool) (at : Place) (z : ℤ) where
       go : (y : ℤ) → ltZ y (pos 1) ≡ false → ltZ (pos 16777215) y ≡ false → natAbs y ≤ 65535 → (b : Bool) → gives (natAbs y) ≡ referenceNumber b at y
       go (pos n) l′ h′ m′ true = rw (l′, h′)
       go (pos n) l′ h′ m′ false = rw (l′, h′, le-ltb 65535 n m′)
-      go (negsuc n) l′ h′ m′ b = absurd (let q : _≡_ {A = ℕ} 0 1 = cc in omega arith)
+      go (negsuc n) l′ h′ m′ b = clash (cc)
 
 -- the code's test n < 0
 pub from-zero : (z : ℤ) → ltZ z (pos 0) ≡ false → (T (nonNeg z)) × (natAbs z ≡ mag z)
 from-zero (pos n) e = (tt, refl)
-from-zero (negsuc n) e = absurd (let q : _≡_ {A = ℕ} 0 1 = cc in omega arith)
+from-zero (negsuc n) e = clash (cc)
 
 pub good-bits : (z : ℤ) → ltZ z (pos 1) ≡ false → ltZ (pos 16777215) z ≡ false → T (nonNeg z) × Fits w32 (natAbs z)
 good-bits (pos n) l h = (tt, record { fits = omega (arith, ltb-false 16777215 n h) })
-good-bits (negsuc n) l h = absurd (let q : _≡_ {A = ℕ} 0 1 = cc in omega arith)
+good-bits (negsuc n) l h = clash (cc)

@@ -1,28 +1,20 @@
 -- Signed sums by way of the unsigned: z + h is the natural number `biased h z`, and u - h is `unbiased h u`.
 -- Every law is over the half h. Assumes nothing.
 use mathlib.Core.Path.{_≡_, refl, ap, _∙_}
-use mathlib.Core.Bool.{Bool, true, false}
 use Prim.Native.Nat.{ℕ, zero, suc, _+_, _-_, _<_, _≤_, _^_}
 use native.Mathlib.Omega.{arith}
 use native.Mathlib.Nat.{sub-zero, add-zero}
-use mathlib.Core.Logic.{⊎-elim, _⊎_, inl, inr}
-use lib.Dec.{ltb}
+use mathlib.Core.Logic.{⊎-elim}
 use lib.IntN.{ℤ, pos, negsuc, natAbs, subℕ, _+ℤ_, _-ℤ_}
 use lib.Signed.{mag}
-use borrow.Author.Tests.{lt-ltb, le-ltb, ltb-true, ltb-false, le-leb, lt-leb}
+use borrow.Author.Tests.{lt-ltb, le-ltb, le-leb, lt-leb}
 use mir.Syntax.{w32, w64}
 use mir.Val.{SFits, toZ, ofZ}
 use mir.Facts.{toZ-ofZ, toZ-pos, sfits-widen}
+pub use Rattle.common.proofs.Bools.{lt-or-le}
 use Rattle.common.specs.Answers.{Place, gives, refused}
 use Rattle.cell.specs.Cells.{integer}
 use Rattle.cell.specs.inner.Signed.{biased, unbiased}
-
-by-order : (a b : ℕ) (t : Bool) → ltb a b ≡ t → (a < b) ⊎ (b ≤ a)
-by-order a b true e = inl (ltb-true a b e)
-by-order a b false e = inr (ltb-false a b e)
-
-pub lt-or-le : (a b : ℕ) → (a < b) ⊎ (b ≤ a)
-lt-or-le a b = by-order a b (ltb a b) refl
 
 pub sub-pos : (a b : ℕ) → b ≤ a → subℕ a b ≡ pos (a - b)
 sub-pos a b h = rw (le-ltb a b h)

@@ -9,6 +9,7 @@ use lib.IntN.{ℤ, pos, negsuc, natAbs, _+ℤ_}
 use lib.Signed.{ltZ}
 use Rattle.common.specs.Choice.{if_then_else_}
 use Rattle.common.specs.Answers.{Place, gives, refused}
+use Rattle.common.proofs.Bools.{clash}
 use Rattle.cell.specs.declared.value.Cell.{Cell}
 use Rattle.cell.specs.declared.value.Cell.the-variants as cell
 use Rattle.cell.specs.Handed.{unknown, cellOf, handedKind, handedNumber}
@@ -64,7 +65,7 @@ pub integer-number : (half : ℕ) (at : Place) (z : ℤ) (m : ℕ) → integer h
 integer-number half at z m e = go (leb half (natAbs z)) refl e
   where
     go : (b : Bool) → leb half (natAbs z) ≡ b → (if b then refused 17 at else gives (natAbs (z +ℤ pos half))) ≡ gives m → (natAbs z < half) × (biased half z ≡ m)
-    go true q r = absurd (let y : _≡_ {A = ℕ} 0 1 = cc in omega arith)
+    go true q r = clash (cc)
     go false q r =
         let g = leb-false half (natAbs z) q in
         let is : natAbs (z +ℤ pos half) ≡ m = cc in
@@ -81,13 +82,13 @@ pub reference-number : (long : Bool) (at : Place) (z : ℤ) (m : ℕ) → refere
 reference-number long at z m e = go z (ltZ z (pos 1)) (ltZ (pos 16777215) z) (not long && ltZ (pos 65535) z) refl refl refl e
   where
     short-le : (l : Bool) (n : ℕ) → (not l && ltb 65535 n) ≡ false → l ≡ false → n ≤ 65535
-    short-le true n q h = absurd (let y : _≡_ {A = ℕ} 0 1 = cc in omega arith)
+    short-le true n q h = clash (cc)
     short-le false n q h = ltb-false 65535 n q
 
     go : (y : ℤ) (a b c : Bool) → ltZ y (pos 1) ≡ a → ltZ (pos 16777215) y ≡ b → (not long && ltZ (pos 65535) y) ≡ c → referenceNumber long at y ≡ gives m → Referred long y m
-    go y true b c p q r f = absurd (let g = rw p at f in let w : _≡_ {A = ℕ} 0 1 = cc in omega arith)
-    go y false true c p q r f = absurd (let g = rw (p, q) at f in let w : _≡_ {A = ℕ} 0 1 = cc in omega arith)
-    go y false false true p q r f = absurd (let g = rw (p, q, r) at f in let w : _≡_ {A = ℕ} 0 1 = cc in omega arith)
+    go y true b c p q r f = clash (let g = rw p at f in cc)
+    go y false true c p q r f = clash (let g = rw (p, q) at f in cc)
+    go y false false true p q r f = clash (let g = rw (p, q, r) at f in cc)
     go (pos n) false false false p q r f =
         let g : gives n ≡ gives m = rw (p, q, r) at f in
         let same : n ≡ m = cc in
@@ -97,4 +98,4 @@ reference-number long at z m e = go z (ltZ z (pos 1)) (ltZ (pos 16777215) z) (no
           most = rw same at (ltb-false 16777215 n q);
           short = λ h. rw same at (short-le long n r h);
         }
-    go (negsuc n) false false false p q r f = absurd (let w : _≡_ {A = ℕ} 0 1 = cc in omega arith)
+    go (negsuc n) false false false p q r f = clash (cc)

@@ -4,21 +4,17 @@ use Rattle.cell.specs.Forms.{typeIn, longIn}
 use Rattle.cell.specs.Cells.{width, unstored}
 use Rattle.little_endian.proofs.Laws.{number-lt}
 use Rattle.little_endian.specs.Numbers.{numberAt}
-use native.Mathlib.Omega.{arith}
-use Prim.Native.Nat.{ℕ, min, _≤_}
 use mathlib.Core.Path.{_≡_, ap, _∙_}
 use borrow.Author.Needs.{needs}
 use Rattle.cell.proofs.form.CellForm.read_value.Statement.{statement}
 use Rattle.cell.proofs.form.CellForm.read_value.Tie as tie
-
-at-most-four : (w : ℕ) → w ≤ 4 → min w 4 ≡ w
-at-most-four w h = omega arith
+use native.Mathlib.Nat.{min-eq-left}
 
 -- the cell's number
 number-is : (c : tie.After-read) → c .read .result ≡ numberAt (width (typeIn (c .before .before .before .args .self)) (longIn (c .before .before .before .args .self))) (c .before .before .before .args .stream .now) (c .before .before .before .args .at)
 number-is c =
     let f = c .before .before .before .args .self in
-    rw (c .before .width .ensures, at-most-four (width (typeIn f) (longIn f)) (width-le (typeIn f) (longIn f))) at (c .read .ensures)
+    rw (c .before .width .ensures, min-eq-left (width-le (typeIn f) (longIn f))) at (c .read .ensures)
 
 value-of-requires : tie.Need-value-of-requires
 value-of-requires c κs =

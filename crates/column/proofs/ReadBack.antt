@@ -9,6 +9,8 @@ use lib.IntN.{pos}
 use Rattle.common.specs.Choice.{if_then_else_}
 use Rattle.common.specs.Answers.{gives, refused, onGiven}
 use Rattle.common.proofs.Below.{allBelow, each, both}
+use Rattle.common.proofs.Bools.{clash}
+use Rattle.common.proofs.Answers.{given}
 use Rattle.cell.specs.declared.form.ColumnType.{ColumnType}
 use Rattle.cell.specs.declared.form.ColumnType.the-variants.{Int16, Int32, Str, Binary}
 use Rattle.column.specs.declared.column.ColumnBuilder.{ColumnBuilder}
@@ -112,19 +114,16 @@ back-str max l u p h r b c =
     let t = told l u p max h in
     rw (t .other, t .text, t .low, t .loc, t .null, t .key)
 
-given : {A : Type 0} (x y : A) → gives x ≡ gives y → x ≡ y
-given x y e = cc
-
 pub bits-read-back : BitsReadBack
 bits-read-back x b c n e = go (x .coltype) refl
   where
     go : (t : ColumnType) → x .coltype ≡ t → bitsColumn b c n ≡ gives (record { coltype = typeBack x; «is_localizable» = x .«is_localizable»; «is_nullable» = b .«is_nullable» || x .«is_nullable»; «is_primary_key» = x .«is_primary_key»; «value_range» = b .«value_range» })
-    go Int16 q = rw (← given _ _ (rw q at e), q) (back-int16 (x .«is_localizable») (x .«is_nullable») (x .«is_primary_key») (x .«value_range») b c)
-    go Int32 q = rw (← given _ _ (rw q at e), q) (back-int32 (x .«is_localizable») (x .«is_nullable») (x .«is_primary_key») (x .«value_range») b c)
-    go Binary q = rw (← given _ _ (rw q at e), q) (back-binary (x .«is_localizable») (x .«is_nullable») (x .«is_primary_key») (x .«value_range») b c)
+    go Int16 q = rw (← given (rw q at e), q) (back-int16 (x .«is_localizable») (x .«is_nullable») (x .«is_primary_key») (x .«value_range») b c)
+    go Int32 q = rw (← given (rw q at e), q) (back-int32 (x .«is_localizable») (x .«is_nullable») (x .«is_primary_key») (x .«value_range») b c)
+    go Binary q = rw (← given (rw q at e), q) (back-binary (x .«is_localizable») (x .«is_nullable») (x .«is_primary_key») (x .«value_range») b c)
     go (Str max) q = fits (ltb 255 max) refl (rw q at e)
       where
         fits : (k : Bool) → ltb 255 max ≡ k → onGiven (if k then refused 19 (Rattle.common.specs.Answers.column 0) else gives (Str max)) (λ t. gives (pos (typeBits t + marked (x .«is_localizable») (x .«is_nullable») (x .«is_primary_key»)))) ≡ gives n
             → bitsColumn b c n ≡ gives (record { coltype = typeBack x; «is_localizable» = x .«is_localizable»; «is_nullable» = b .«is_nullable» || x .«is_nullable»; «is_primary_key» = x .«is_primary_key»; «value_range» = b .«value_range» })
-        fits true f g = absurd (let z : _≡_ {A = ℕ} 0 1 = cc in omega arith)
-        fits false f g = rw (← given _ _ g, q) (back-str max (x .«is_localizable») (x .«is_nullable») (x .«is_primary_key») (omega (arith, ltb-false 255 max f)) (x .«value_range») b c)
+        fits true f g = clash (cc)
+        fits false f g = rw (← given g, q) (back-str max (x .«is_localizable») (x .«is_nullable») (x .«is_primary_key») (omega (arith, ltb-false 255 max f)) (x .«value_range») b c)

@@ -9,6 +9,7 @@ use types.Run.{OneOf}
 use denote.Enum.Declared.{tagOf}
 use borrow.Author.Tests.{ltb-false}
 use Rattle.common.specs.Answers.{column, gives, refused}
+use Rattle.common.proofs.Bools.{clash}
 use Rattle.cell.specs.declared.form.ColumnType.{ColumnType}
 use Rattle.cell.specs.declared.form.ColumnType.the-variants.{Int16, Int32, Str, Binary}
 use Rattle.cell.proofs.form.ColumnType as type
@@ -25,10 +26,10 @@ sound-type c (Str max) e = (rw e, ltb-false 255 max e)
 sound-type c Binary e = (refl, tt)
 
 pub long-type : (c : ℕ) (t : ColumnType) → tooLong t ≡ true → soundType c t ≡ refused 19 (column c)
-long-type c Int16 e = absurd (let z : _≡_ {A = ℕ} 0 1 = cc in omega arith)
-long-type c Int32 e = absurd (let z : _≡_ {A = ℕ} 0 1 = cc in omega arith)
+long-type c Int16 e = clash (cc)
+long-type c Int32 e = clash (cc)
 long-type c (Str max) e = rw e
-long-type c Binary e = absurd (let z : _≡_ {A = ℕ} 0 1 = cc in omega arith)
+long-type c Binary e = clash (cc)
 
 -- a type that is no Str
 none3 : {n a b c : ℕ} → (n ≡ a → ⊥) → (n ≡ b → ⊥) → (n ≡ c → ⊥) → OneOf (a ∷ b ∷ c ∷ []) n → ⊥

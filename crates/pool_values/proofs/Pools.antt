@@ -3,7 +3,6 @@ use mathlib.Core.Path.{_≡_, refl, sym, _∙_, ap}
 use mathlib.Core.Bool.{Bool, true, false, not, true≢false}
 use mathlib.Core.List.{List, []}
 use Prim.Native.Nat.{ℕ, _≤_, _<_}
-use native.Mathlib.Omega.{arith}
 use lib.IntN.{ℤ, pos}
 use lib.Dec.{ltb}
 use lib.ListN.{length}
@@ -13,6 +12,8 @@ use Rattle.common.specs.Sizes.{maxBytes}
 use Rattle.common.specs.Answers.{Place, nowhere, Answer, gives, refused, onGiven, outcome, refusalOf}
 use Rattle.common.specs.Refusals.{numberOf, whereOf, refusedBy}
 use Rattle.common.specs.declared.refusal.Refusal.{Refusal}
+use Rattle.common.proofs.Bools.{clash}
+use Rattle.common.proofs.Answers.{after-refused, passed}
 use Rattle.stringpool.specs.declared.pool.StringPool.{StringPool}
 use Rattle.stringpool.specs.declared.takes.Taken.{Taken}
 use Rattle.stringpool.specs.declared.takes.Taken.the-variants as taken
@@ -33,22 +34,16 @@ use Rattle.pool_values.specs.declared.Shown.the-variants as shown
 
 -- ---- 22 and 24, told by a show of the least number
 
-same-refusal : {A : Type 0} (n m : ℕ) (at p : Place) → _≡_ {A = Answer (Unit {0})} (refused n at) (refused m p) → _≡_ {A = Answer A} (refused m p) (refused n at)
-same-refusal n m at p e =
-    let s : n ≡ m = cc in
-    let t : at ≡ p = cc in
-    rw (s, t)
-
 stops : {A B : Type 0} (s t : Bool) (a : A) (b : Answer B) (n : ℕ) (at : Place)
     → refused n at ≡ refusalOf (if s then refused 22 nowhere else if not t then refused 24 nowhere else gives a) → (if s then refused 22 nowhere else if not t then refused 24 nowhere else b) ≡ refused n at
-stops true t a b n at e = same-refusal n 22 at nowhere e
-stops false false a b n at e = same-refusal n 24 at nowhere e
-stops false true a b n at e = absurd (let z : _≡_ {A = ℕ} 0 1 = cc in omega arith)
+stops true t a b n at e = cc
+stops false false a b n at e = cc
+stops false true a b n at e = clash (cc)
 
 passes : {A B : Type 0} (s t : Bool) (a : A) (b : Answer B)
     → gives tt ≡ refusalOf (if s then refused 22 nowhere else if not t then refused 24 nowhere else gives a) → (if s then refused 22 nowhere else if not t then refused 24 nowhere else b) ≡ b
-passes true t a b e = absurd (let z : _≡_ {A = ℕ} 0 1 = cc in omega arith)
-passes false false a b e = absurd (let z : _≡_ {A = ℕ} 0 1 = cc in omega arith)
+passes true t a b e = clash (cc)
+passes false false a b e = clash (cc)
 passes false true a b e = refl
 
 module _ {A B : Type 0} (p : StringPool) (w : Rooms) (a : A) (b : Answer B) where
@@ -85,14 +80,6 @@ kept p w a (showable.Refused x) e = sym (ap (outcome w) (unsound p w a (gives (p
 
 -- ---- what is shown
 
-refused-on : {A B : Type 0} (x : Answer A) (more : A → Answer B) (n : ℕ) (at : Place) → refused n at ≡ refusalOf x → refused n at ≡ onGiven x more
-refused-on (gives a) more n at e = absurd (let z : _≡_ {A = ℕ} 0 1 = cc in omega arith)
-refused-on (refused m p) more n at e = sym (same-refusal n m at p e)
-
-given-on : {A B : Type 0} (x : Answer A) (y : Answer B) → gives tt ≡ refusalOf x → y ≡ onGiven x (λ a. y)
-given-on (gives a) y e = refl
-given-on (refused m p) y e = absurd (let z : _≡_ {A = ℕ} 0 1 = cc in omega arith)
-
 module _ (v : ValueRef) (p : StringPool) (w : Rooms) where
   abbrev asked : ℤ
   asked = if refKind v =? 2 then numberOfValue v else pos 1
@@ -102,7 +89,7 @@ module _ (v : ValueRef) (p : StringPool) (w : Rooms) where
     where
       go : (b : Bool) → (refKind v =? 2) ≡ b → refusedBy x ≡ refusalOf (showAnswer p w (if b then numberOfValue v else pos 1))
           → _≡_ {A = Answer (ℕ × ℤ)} (refusedBy x) (onGiven (if b then showAnswer p w (numberOfValue v) else onSound p w (gives [])) (λ t. gives (refKind v, if b then pos 0 else numberOfValue v)))
-      go true g e = refused-on (showAnswer p w (numberOfValue v)) _ _ _ e
+      go true g e = sym (after-refused (showAnswer p w (numberOfValue v)) _ _ _ (sym e))
       go false g e = sym (ap (λ (y : Answer (List ℕ)). onGiven {B = ℕ × ℤ} y (λ t. gives (refKind v, numberOfValue v))) (unsound p w _ (gives []) (numberOf x) (whereOf x) e))
 
   shown-is : (v : ValueRef) → _≡_ {A = Answer (ℕ × ℤ)} (shownAs (shown.Value (shownOf v))) (gives (refKind v, if refKind v =? 2 then pos 0 else numberOfValue v))
@@ -117,7 +104,7 @@ module _ (v : ValueRef) (p : StringPool) (w : Rooms) where
       go : (b : Bool) → gives tt ≡ refusalOf (showAnswer p w (if b then numberOfValue v else pos 1))
           → _≡_ {A = Answer (ℕ × ℤ)} (gives (refKind v, if b then pos 0 else numberOfValue v))
           (onGiven (if b then showAnswer p w (numberOfValue v) else onSound p w (gives [])) (λ t. gives (refKind v, if b then pos 0 else numberOfValue v)))
-      go true e = given-on (showAnswer p w (numberOfValue v)) (gives (refKind v, pos 0)) e
+      go true e = sym (passed (showAnswer p w (numberOfValue v)) (gives (refKind v, pos 0)) e)
       go false e = sym (ap (λ (y : Answer (List ℕ)). onGiven {B = ℕ × ℤ} y (λ t. gives (refKind v, numberOfValue v))) (is-sound p w _ (gives []) e))
 
   pub text-shown : (a : List ℕ) → (refKind v =? 2) ≡ true → a ≡ orEmpty (showAnswer p w (numberOfValue v)) → a ≡ orEmpty (textAnswer (refKind v) (numberOfValue v) p w)

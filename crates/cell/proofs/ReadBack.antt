@@ -1,14 +1,14 @@
 -- A cell written and read, a cell read and written: once over the half of an integer and the width of a reference.
 use mathlib.Core.Path.{_≡_, refl, sym, _∙_, ap}
-use mathlib.Core.Bool.{Bool, true, false, _||_}
+use mathlib.Core.Bool.{Bool, true, false}
 use Prim.Native.Nat.{ℕ, zero, suc, _+_, _<_, _≤_, _^_}
 use native.Mathlib.Omega.{arith}
 use lib.Dec.{eqb, lit<}
-use borrow.Author.Tests.{ne-eqb, eqb-true, eqb-false, lt-ltb, le-ltb}
-use lib.IntN.{ℤ, pos, negsuc, _-ℤ_}
-use lib.Signed.{mag}
+use borrow.Author.Tests.{ne-eqb, eqb-true, eqb-false, le-ltb}
+use lib.IntN.{ℤ, pos, _-ℤ_}
 use Rattle.common.specs.Choice.{if_then_else_}
 use Rattle.common.specs.Answers.{Place, gives, refused}
+use Rattle.common.proofs.Bools.{clash}
 use Rattle.cell.specs.declared.form.ColumnType.{ColumnType}
 use Rattle.cell.specs.declared.form.ColumnType.the-variants.{Int16, Int32, Str, Binary}
 use Rattle.cell.specs.Cells.{isBinary, width, integer, stored, unstored, integerCell, referenceCell, binaryCell, referenceNumber}
@@ -38,19 +38,16 @@ int-again half at m p h = rw (sub-is m half) (integer-given half at (unbiased ha
 
 -- ---- the kinds that a column takes
 
-none : {A : Type 0} {n : ℕ} {at : Place} {x : A} {P : Type 0} → refused n at ≡ gives x → P
-none e = absurd (let z : _≡_ {A = ℕ} 0 1 = cc in omega arith)
-
 int-kinds : (half : ℕ) (at : Place) (k : ℕ) (z : ℤ) (m : ℕ) (a b : Bool) → eqb k 0 ≡ a → eqb k 1 ≡ b
     → (if a then gives 0 else if b then integer half at z else refused 16 at) ≡ gives m → integerCell half m ≡ readsAs k z
 int-kinds half at k z m true b p q e = let i : 0 ≡ m = cc in rw (← i, p)
-int-kinds half at k z m false false p q e = none e
+int-kinds half at k z m false false p q e = clash (cc)
 int-kinds half at k z m false true p q e = rw (eqb-true k 1 q) (int-back half at z m e)
 
 module _ (max : ℕ) (long : Bool) (at : Place) (k : ℕ) (z : ℤ) (m : ℕ) where
   ref-kinds : (a b : Bool) → eqb k 0 ≡ a → eqb k 2 ≡ b → (if a then gives 0 else if b then referenceNumber long at z else refused 16 at) ≡ gives m → referenceCell m ≡ readsAs k z
   ref-kinds true b p q e = let i : 0 ≡ m = cc in rw (← i, p)
-  ref-kinds false false p q e = none e
+  ref-kinds false false p q e = clash (cc)
   ref-kinds false true p q e =
       let two : k ≡ 2 = eqb-true k 2 q in
       let r = reference-number long at z m e in
@@ -59,7 +56,7 @@ module _ (max : ℕ) (long : Bool) (at : Place) (k : ℕ) (z : ℤ) (m : ℕ) wh
 binary-kinds : (at : Place) (k : ℕ) (z : ℤ) (m : ℕ) (a b : Bool) → eqb k 0 ≡ a → eqb k 3 ≡ b → (if a then gives 0 else if b then gives 1 else refused 16 at) ≡ gives m → binaryCell m ≡ readsAs k z
 binary-kinds at k z m true b p q e = let i : 0 ≡ m = cc in rw (← i, p)
 binary-kinds at k z m false true p q e = let i : 1 ≡ m = cc in rw (← i, eqb-true k 3 q)
-binary-kinds at k z m false false p q e = none e
+binary-kinds at k z m false false p q e = clash (cc)
 
 pub cell-read-back : CellReadBack
 cell-read-back Int16 long at k z m e = int-kinds 32768 at k z m (eqb k 0) (eqb k 1) refl refl e
@@ -72,14 +69,14 @@ cell-read-back Binary long at k z m e = binary-kinds at k z m (eqb k 0) (eqb k 3
 int-fits : (half : ℕ) (at : Place) (z : ℤ) (m : ℕ) (a b : Bool) → 0 < half → (if a then gives 0 else if b then integer half at z else refused 16 at) ≡ gives m → m < half + half
 int-fits half at z m true b p e = let i : 0 ≡ m = cc in omega arith
 int-fits half at z m false true p e = int-lt half at z m e
-int-fits half at z m false false p e = none e
+int-fits half at z m false false p e = clash (cc)
 
 ref-fits : (long : Bool) (at : Place) (z : ℤ) (m : ℕ) (a b : Bool) → (if a then gives 0 else if b then referenceNumber long at z else refused 16 at) ≡ gives m → m < 256 ^ (if long then 3 else 2)
 ref-fits true at z m true b e = let i : 0 ≡ m = cc in omega arith
 ref-fits false at z m true b e = let i : 0 ≡ m = cc in omega arith
 ref-fits true at z m false true e = let r = reference-number true at z m e .most in omega arith
 ref-fits false at z m false true e = let r = reference-number false at z m e .short refl in omega arith
-ref-fits long at z m false false e = none e
+ref-fits long at z m false false e = clash (cc)
 
 pub stored-fits : (t : ColumnType) (long : Bool) (at : Place) (k : ℕ) (z : ℤ) (m : ℕ) → stored t long at k z ≡ gives m → m < 256 ^ width t long
 stored-fits Int16 long at k z m e = int-fits 32768 at z m (eqb k 0) (eqb k 1) (lit< tt) e
@@ -90,7 +87,7 @@ stored-fits Binary long at k z m e = go (eqb k 0) (eqb k 3) e
     go : (a b : Bool) → (if a then gives 0 else if b then gives 1 else refused 16 at) ≡ gives m → m < 65536
     go true b f = let i : 0 ≡ m = cc in omega arith
     go false true f = let i : 1 ≡ m = cc in omega arith
-    go false false f = none f
+    go false false f = clash (cc)
 
 -- ---- what was read is stored as it was
 

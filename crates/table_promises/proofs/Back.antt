@@ -32,7 +32,10 @@ use Rattle.table.specs.Rows.{cellAt, rowByRow}
 use Rattle.table.specs.Reading.{numRowsAnswer, readCellAnswer, readRowsOutcome}
 use Rattle.table.specs.Writing.{Cells, cellBytes, columnBytes, tableBytes, writeRowsOutcome}
 use Rattle.table.specs.inner.Columns.{givenBytes, plain}
-use Rattle.common.proofs.Answers.{given-refusal, fine-first, each-fine}
+use Rattle.common.proofs.Answers.{given-refusal, fine-first, given, each-fine}
+use Rattle.common.proofs.Bools.{clash}
+use Rattle.common.proofs.Outcomes.{refused-gives}
+use Rattle.common.proofs.Lists.{no-length}
 use Rattle.table.proofs.Strides.{next-le}
 use Rattle.table.proofs.Parts.{part-number}
 use Rattle.table.proofs.Plain.{all-given}
@@ -54,17 +57,11 @@ pub record Done (t : Table) (rows : ℕ) (cells : Cells) (out : List ℕ) (n : �
   count : n ≡ length (givenBytes (tableBytes (typesOf t) (t .«long_string_refs») rows cells))
   is : left ≡ (givenBytes (tableBytes (typesOf t) (t .«long_string_refs») rows cells) over out)
 
-given : (a b : ℕ) → gives a ≡ gives b → a ≡ b
-given a b e = cc
-
-never : (m n : ℕ) (at : Place) → refused m at ≡ gives n → ⊥
-never m n at e = let z : _≡_ {A = ℕ} 0 1 = cc in omega arith
-
 pair : (a b : ℕ) (x y : List ℕ) → _≡_ {A = Answer ℕ × List ℕ} (gives a, x) (gives b, y) → (a ≡ b) × (x ≡ y)
-pair a b x y e = (given a b (ap (λ (p : Answer ℕ × List ℕ). p .0) e), ap (λ (p : Answer ℕ × List ℕ). p .1) e)
+pair a b x y e = (given (ap (λ (p : Answer ℕ × List ℕ). p .0) e), ap (λ (p : Answer ℕ × List ℕ). p .1) e)
 
 never-pair : (m n : ℕ) (at : Place) (x y : List ℕ) → _≡_ {A = Answer ℕ × List ℕ} (refused m at, x) (gives n, y) → ⊥
-never-pair m n at x y e = never m n at (ap (λ (p : Answer ℕ × List ℕ). p .0) e)
+never-pair m n at x y e = refused-gives (ap (λ (p : Answer ℕ × List ℕ). p .0) e)
 
 module _ (t : Table) (rows : ℕ) (cells : Cells) (out : List ℕ) (n : ℕ) (left : List ℕ) where
   abbrev bytes : Answer (List ℕ)
@@ -90,9 +87,6 @@ module _ (t : Table) (rows : ℕ) (cells : Cells) (out : List ℕ) (n : ℕ) (le
       go (gives xs) p (refused m at) q y u f = absurd (never-pair m n at out left f)
       go (gives xs) p (gives z) q (refused m at) u f = absurd (never-pair m n at out left f)
       go (gives xs) p (gives z) q (gives c) u f = room c (ltb (length out) (length c)) (rw p) (bulk 65536 rows _ _ _ (sym q) .few) u f
-
-no-refusal : (n : ℕ) (at : Place) → _≡_ {A = Answer (Unit {0})} (refused n at) (gives tt) → ⊥
-no-refusal n at e = let z : _≡_ {A = ℕ} 0 1 = cc in omega arith
 
 -- ---- where a cell's bytes stand
 
@@ -174,7 +168,7 @@ module _ (ts : List ColumnType) (long : Bool) (rows : ℕ) (cells : Cells) (fine
       where
         go : (a : Answer ℕ) → stored (typeAt ts c) long (cell r c) (kindAt r) (numberOf r) ≡ a → refusalOf (onGiven a (λ n. gives (bytesOf w n))) ≡ gives tt → Kept r
         go (gives n) p q = record { number = n; stores = p; bytes-are = rw p }
-        go (refused n at) p q = absurd (no-refusal n at q)
+        go (refused n at) p q = absurd (refused-gives q)
 
     cell-length : (r : ℕ) → refusalOf (cellsOf r) ≡ gives tt → length (givenBytes (cellsOf r)) ≡ w
     cell-length r e = let k = kept r e in ap length (k .bytes-are) ∙ length-bytes w (k .number)
@@ -221,12 +215,8 @@ size-ge long (t ∷ ts) = omega (arith, size-ge long ts, width-ge t long)
     width-ge (Str max) false = lit≤ tt
     width-ge Binary long = lit≤ tt
 
-none : {A : Type 0} (x : List A) → length x ≡ 0 → x ≡ []
-none [] e = refl
-none (a ∷ x) e = absurd (omega arith)
-
 rows-back : (size rows n : ℕ) (b : Bool) → eqb size 0 ≡ b → n ≡ rows * size → b ≡ false → (if b then 0 else n / size) ≡ rows
-rows-back size rows n true e q z = absurd (let y : _≡_ {A = ℕ} 0 1 = cc in omega arith)
+rows-back size rows n true e q z = clash (cc)
 rows-back size rows n false e q z =
     let p = eqb-false size 0 e in
     rw q (mul-div-cancel rows (positive size p))
@@ -292,8 +282,8 @@ module _ (t : Table) (rows : ℕ) (cells : Cells) (whole : length (t .columns) �
         let found = found-rows 0 (rw e) (omega arith) in
         let y : 0 * t .count ≡ 0 = zero-mul (t .count) in
         let read = read-is t stream 0 kinds numbers found (omega arith) (omega arith) in
-        let u = none (rowByRow (λ (r c : ℕ). handedBack t cells r c .0) rows (t .count)) (length-grid (λ (r c : ℕ). handedBack t cells r c .0) 0 (t .count) rows ∙ q) in
-        let v = none (rowByRow (λ (r c : ℕ). handedBack t cells r c .1) rows (t .count)) (length-grid (λ (r c : ℕ). handedBack t cells r c .1) (pos 0) (t .count) rows ∙ q) in
+        let u = no-length (rowByRow (λ (r c : ℕ). handedBack t cells r c .0) rows (t .count)) (length-grid (λ (r c : ℕ). handedBack t cells r c .0) 0 (t .count) rows ∙ q) in
+        let v = no-length (rowByRow (λ (r c : ℕ). handedBack t cells r c .1) rows (t .count)) (length-grid (λ (r c : ℕ). handedBack t cells r c .1) (pos 0) (t .count) rows ∙ q) in
         read ∙ rw (u, v, y, q)
 
     pub table-back : Result

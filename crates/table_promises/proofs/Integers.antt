@@ -1,16 +1,16 @@
 -- Integers in a table: those that were written are within their column's range and read back; all others are refused.
 use mathlib.Core.Path.{_≡_, refl, sym, _∙_, ap}
-use mathlib.Core.Bool.{Bool, true, false}
-use mathlib.Core.List.{List, _∷_}
-use Prim.Native.Nat.{ℕ, zero, suc, _+_, _*_, _<_, _≤_}
-use native.Mathlib.Nat.{add-zero, zero-add}
+use mathlib.Core.Bool.{Bool, true}
+use mathlib.Core.List.{List}
+use Prim.Native.Nat.{ℕ, _+_, _*_, _<_, _≤_}
+use native.Mathlib.Nat.{zero-add}
 use native.Mathlib.Omega.{arith}
 use lib.Dec.{lit≤}
 use lib.IntN.{ℤ, pos, negsuc, natAbs}
-use lib.ListN.{length, getD, take}
+use lib.ListN.{length, getD}
 use borrow.Author.Tests.{le-ltb, le-leb, eq-eqb}
 use Rattle.common.specs.Lists.{joined, from}
-use Rattle.common.specs.Answers.{Place, Answer, gives, refused, cell, each, refusalOf, onGiven, outcome}
+use Rattle.common.specs.Answers.{Place, Answer, gives, refused, cell, each, refusalOf, outcome}
 use Rattle.order.specs.Order.{bulkFits}
 use Rattle.little_endian.specs.Numbers.{bytesOf}
 use Rattle.cell.specs.declared.form.ColumnType.{ColumnType}
@@ -29,6 +29,7 @@ use Rattle.table.proofs.Layouts.{types-count}
 use Rattle.table.proofs.Column.{table-judged}
 use Rattle.table.proofs.Answers.{bad-cell}
 use Rattle.table_promises.specs.Promises.{handed, isInteger, halfOf, IntAt, Kept, IntegersKept, Int16Kept, Int32Kept, Stored, NeverWritten, First, RefusedWith17, OutsideRefused, OutsideIs17, SmallestRefused, FortyThousand}
+use Rattle.common.proofs.Bools.{clash}
 use Rattle.table_promises.proofs.Back.{done, kept, fine-cell, place-back, written-bytes}
 
 -- ---- one cell
@@ -36,14 +37,14 @@ use Rattle.table_promises.proofs.Back.{done, kept, fine-cell, place-bac
 within : (type : ColumnType) (long : Bool) (at : Place) (n : ℤ) (m : ℕ) → isInteger type ≡ true → stored type long at 1 n ≡ gives m → natAbs n < halfOf type
 within Int16 long at n m i e = integer-number 32768 at n m e .0
 within Int32 long at n m i e = integer-number 2147483648 at n m e .0
-within (Str max) long at n m i e = absurd (let z : _≡_ {A = ℕ} 0 1 = cc in omega arith)
-within Binary long at n m i e = absurd (let z : _≡_ {A = ℕ} 0 1 = cc in omega arith)
+within (Str max) long at n m i e = clash (cc)
+within Binary long at n m i e = clash (cc)
 
 outside : (type : ColumnType) (long : Bool) (at : Place) (n : ℤ) → isInteger type ≡ true → halfOf type ≤ natAbs n → stored type long at 1 n ≡ refused 17 at
 outside Int16 long at n i h = rw (le-leb 32768 (natAbs n) h)
 outside Int32 long at n i h = rw (le-leb 2147483648 (natAbs n) h)
-outside (Str max) long at n i h = absurd (let z : _≡_ {A = ℕ} 0 1 = cc in omega arith)
-outside Binary long at n i h = absurd (let z : _≡_ {A = ℕ} 0 1 = cc in omega arith)
+outside (Str max) long at n i h = clash (cc)
+outside Binary long at n i h = clash (cc)
 
 -- the cell of the table, as it is stored
 this-cell : {type : ColumnType} {n : ℤ} {t : Table} {rows : ℕ} {cells : Cells} {r c : ℕ} → IntAt type n t rows cells r c → length (typesOf t) ≡ t .count

@@ -10,6 +10,8 @@ use lib.ListN.{length, getD, take, drop}
 use lib.Seq.{length-take-le, take-all, take-at}
 use borrow.Author.Tests.{le-ltb, eq-eqb}
 use Rattle.common.specs.Answers.{gives, cell}
+use Rattle.common.proofs.Bools.{clash}
+use Rattle.common.proofs.Answers.{each-given}
 use Rattle.little_endian.specs.Numbers.{numberAt}
 use Rattle.little_endian.specs.Promises.{AreBytes}
 use Rattle.little_endian.proofs.Laws.{number-lt, write-back}
@@ -55,9 +57,9 @@ module _ (t : Table) (s : List ℕ) (rows : ℕ) (whole : length (t .columns) �
 
   -- the number of a Binary cell, which has two bytes
   few : (t : ColumnType) (at : ℕ) → (isBinary t ≡ true → numberAt 2 s at ≤ 1) → isBinary t ≡ true → numberAt (width t long) s at ≤ 1
-  few Int16 at h e = absurd (let z : _≡_ {A = ℕ} 0 1 = cc in omega arith)
-  few Int32 at h e = absurd (let z : _≡_ {A = ℕ} 0 1 = cc in omega arith)
-  few (Str max) at h e = absurd (let z : _≡_ {A = ℕ} 0 1 = cc in omega arith)
+  few Int16 at h e = clash (cc)
+  few Int32 at h e = clash (cc)
+  few (Str max) at h e = clash (cc)
   few Binary at h e = h e
 
   -- a cell's bytes

@@ -41,15 +41,5 @@ returns c = done (c .before .loop .inv .1) (bytes-none _ _ _ (c .loop-test .left
 pub put-spec : {M : Type 1} → statement M
 put-spec =
     tie.close
-    (tie.spec
-    Inv-loop
-    μ-loop
-    loop-holds
-    (λ c. omega arith)
-    add-out
-    slice-write-out
-    (λ c. omega arith)
-    (λ c. omega arith)
-    loop-again
-    same-length
+    (tie.spec Inv-loop μ-loop loop-holds (λ c. omega arith) add-out slice-write-out (λ c. omega arith) (λ c. omega arith) loop-again same-length
     returns)

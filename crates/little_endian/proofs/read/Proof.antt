@@ -49,15 +49,5 @@ returns c =
 pub read-spec : {M : Type 1} → statement M
 read-spec =
     tie.close
-    (tie.spec
-    Inv-loop
-    μ-loop
-    (λ c κs. tt)
-    loop-holds
-    (λ c. omega arith)
-    mul-value
-    (λ c κs. omega arith)
-    add-value
-    (λ c. omega arith)
-    loop-again
+    (tie.spec Inv-loop μ-loop (λ c κs. tt) loop-holds (λ c. omega arith) mul-value (λ c κs. omega arith) add-value (λ c. omega arith) loop-again
     returns)

@@ -3,7 +3,7 @@ use Prim.Native.Nat.{ℕ, zero, suc, _+_, _*_, _-_, _/_, _≤_, _<_}
 use mathlib.Core.Path.{_≡_, refl, ap}
 use mathlib.Core.Bool.{Bool, true, false}
 use mathlib.Core.List.{List, [], _∷_}
-use native.Mathlib.Nat.{not-suc-le-zero, le-of-suc-le-suc}
+use native.Mathlib.Nat.{not-suc-le-zero}
 use native.Mathlib.Numerals.{add-one}
 use native.Mathlib.Omega.{arith}
 use lib.ListN.{length, drop, getD, drop-of-length-le}
@@ -12,11 +12,6 @@ use borrow.Author.Tests.{ltb-false, lt-ltb, le-ltb, le-leb, lt-leb}
 use Rattle.common.specs.Choice.{if_then_else_, _<?_, _=?_}
 use Rattle.common.specs.Lists.{_over_}
 use Rattle.commands.specs.Words.{byteAt, endsAt, run, digitOf, isDigit, valueOf, pairsIn, lesser, listed}
-
-pub past : (l : List ℕ) (i : ℕ) → length l ≤ i → 0 ≡ getD l i 0
-past [] i h = refl
-past (x ∷ l) zero h = absurd (not-suc-le-zero h)
-past (x ∷ l) (suc i) h = past l i (le-of-suc-le-suc h)
 
 -- ---- digits
 

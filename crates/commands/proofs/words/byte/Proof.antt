@@ -1,11 +1,12 @@
 use denote.Ref.{now}
-use Rattle.commands.proofs.Laws.{past}
+use mathlib.Core.Path.{sym}
+use lib.ListN.{List·getD-eq-default}
 use borrow.Author.Needs.{needs}
 use Rattle.commands.proofs.words.byte.Statement.{statement}
 use Rattle.commands.proofs.words.byte.Tie as tie
 
 returns-2 : tie.Need-returns-2
-returns-2 c = past (now (c .before .args .s)) (c .before .args .i) (c .if1 .left)
+returns-2 c = sym (List·getD-eq-default (now (c .before .args .s)) 0 (c .if1 .left))
 
 pub byte-spec : {M : Type 1} → statement M
 byte-spec = tie.close (tie.spec (λ c. search needs) (λ c. search needs) returns-2)

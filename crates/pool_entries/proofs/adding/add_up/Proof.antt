@@ -57,13 +57,4 @@ returns c =
 pub add-up-spec : {M : Type 1} → statement M
 add-up-spec =
     tie.close
-    (tie.spec
-    Inv-loop
-    μ-loop
-    loop-holds
-    block-end-requires
-    sum-block-requires
-    add-sum
-    (λ c. omega arith)
-    loop-again
-    returns)
+    (tie.spec Inv-loop μ-loop loop-holds block-end-requires sum-block-requires add-sum (λ c. omega arith) loop-again returns)

@@ -42,15 +42,5 @@ returns c =
 pub sum-any-spec : {M : Type 1} → statement M
 sum-any-spec =
     tie.close
-    (tie.spec
-    Inv-loop
-    μ-loop
-    loop-holds
-    (λ c. omega arith)
-    (λ c. omega arith)
-    cast-sum
-    add-sum
-    (λ c. omega arith)
-    (λ c. omega arith)
-    loop-again
+    (tie.spec Inv-loop μ-loop loop-holds (λ c. omega arith) (λ c. omega arith) cast-sum add-sum (λ c. omega arith) (λ c. omega arith) loop-again
     returns)

@@ -90,22 +90,5 @@ returns-2 c =
 pub scan-spec : {M : Type 1} → statement M
 scan-spec =
     tie.close
-    (tie.spec
-    Inv-loop
-    μ-loop
-    loop-holds
-    (λ c κs. omega arith)
-    (λ c. omega arith)
-    (λ c. omega arith)
-    equal-at-requires
-    returns
-    add-start
-    (λ c. omega arith)
-    (λ c. omega arith)
-    loop-again
-    (λ c. omega arith)
-    add-skip-2
-    skip-requires
-    loop-less-2
-    loop-again-2
-    returns-2)
+    (tie.spec Inv-loop μ-loop loop-holds (λ c κs. omega arith) (λ c. omega arith) (λ c. omega arith) equal-at-requires returns add-start
+    (λ c. omega arith) (λ c. omega arith) loop-again (λ c. omega arith) add-skip-2 skip-requires loop-less-2 loop-again-2 returns-2)

@@ -65,16 +65,5 @@ returns-3 c =
 pub search-spec : {M : Type 1} → statement M
 search-spec =
     tie.close
-    (tie.spec
-    Inv-loop
-    μ-loop
-    (λ c κs. search needs)
-    loop-holds
-    block-end-requires
-    first-free-requires
-    scan-requires
-    returns
-    returns-2
-    (λ c. omega arith)
-    loop-again
-    returns-3)
+    (tie.spec Inv-loop μ-loop (λ c κs. search needs) loop-holds block-end-requires first-free-requires scan-requires returns returns-2
+    (λ c. omega arith) loop-again returns-3)

@@ -8,37 +8,34 @@ use borrow.Author.Needs.{needs}
 use Rattle.pool_entries.proofs.judging.used_after.Statement.{statement}
 use Rattle.pool_entries.proofs.judging.used_after.Tie as tie
 
+abbrev Begin : tie.After-add-up → tie.Start
+Begin k = k .before .before .before
+
+used-is : (k : tie.After-add-up) → let s = Begin k in s .args .start + k .add-up .result .sum ≡ total (take (s .args .n) (s .args .lengths .now))
+used-is k = omega (arith, Begin k .pre .1 .0 .is, k .add-up .ensures .sum)
+
 returns : tie.Need-returns
 returns c =
-    let u = c .before .add-up in
-    let s = c .before .before .before .before in
-    let b = s .args .start + u .result .sum in
-    let e : b ≡ total (take (s .args .n) (s .args .lengths .now)) = omega (arith, s .pre .1 .0 .is, u .ensures .sum) in
-    used-over (s .args .n) (s .args .lengths .now) (s .args .counts .now) (s .pre .0 .0) (s .pre .0 .1) (s .args .room) b e (c .if1 .taken)
+    let s = Begin (c .before) in
+    used-over (s .args .n) (s .args .lengths .now) (s .args .counts .now) (s .pre .0 .0) (s .pre .0 .1) (s .args .room) _ (used-is (c .before)) (c .if1 .taken)
 
 returns-2 : tie.Need-returns-2
 returns-2 c =
-    let u = c .before .before .before .add-up in
-    let s = c .before .before .before .before .before .before in
-    let b = s .args .start + u .result .sum in
-    let e : b ≡ total (take (s .args .n) (s .args .lengths .now)) = omega (arith, s .pre .1 .0 .is, u .ensures .sum) in
-    used-short (s .args .n) (s .args .lengths .now) (s .args .counts .now) (s .pre .0 .0) (s .pre .0 .1) (s .args .room) b e (c .before .before .if1 .left) (s .args .at) (s .pre .0 .3) (s .pre .1 .1) (u .ensures .short (c .if2 .taken))
+    let k = c .before .before .before in
+    let s = Begin k in
+    used-short (s .args .n) (s .args .lengths .now) (s .args .counts .now) (s .pre .0 .0) (s .pre .0 .1) (s .args .room) _ (used-is k) (c .before .before .if1 .left) (s .args .at) (s .pre .0 .3) (s .pre .1 .1) (k .add-up .ensures .short (c .if2 .taken))
 
 returns-3 : tie.Need-returns-3
 returns-3 c =
-    let u = c .before .before .before .before .before .add-up in
-    let s = c .before .before .before .before .before .before .before .before in
-    let b = s .args .start + u .result .sum in
-    let e : b ≡ total (take (s .args .n) (s .args .lengths .now)) = omega (arith, s .pre .1 .0 .is, u .ensures .sum) in
-    used-sound (s .args .n) (s .args .lengths .now) (s .args .counts .now) (s .pre .0 .0) (s .pre .0 .1) (s .args .room) b e (c .before .before .before .before .if1 .left) (sym (c .before .all-small .ensures) ∙ c .if3 .taken)
+    let k = c .before .before .before .before .before in
+    let s = Begin k in
+    used-sound (s .args .n) (s .args .lengths .now) (s .args .counts .now) (s .pre .0 .0) (s .pre .0 .1) (s .args .room) _ (used-is k) (c .before .before .before .before .if1 .left) (sym (c .before .all-small .ensures) ∙ c .if3 .taken)
 
 returns-4 : tie.Need-returns-4
 returns-4 c =
-    let u = c .before .before .before .before .before .add-up in
-    let s = c .before .before .before .before .before .before .before .before in
-    let b = s .args .start + u .result .sum in
-    let e : b ≡ total (take (s .args .n) (s .args .lengths .now)) = omega (arith, s .pre .1 .0 .is, u .ensures .sum) in
-    used-unsound (s .args .n) (s .args .lengths .now) (s .args .counts .now) (s .pre .0 .0) (s .pre .0 .1) (s .args .room) b e (c .before .before .before .before .if1 .left) (sym (c .before .all-small .ensures) ∙ c .if3 .left)
+    let k = c .before .before .before .before .before in
+    let s = Begin k in
+    used-unsound (s .args .n) (s .args .lengths .now) (s .args .counts .now) (s .pre .0 .0) (s .pre .0 .1) (s .args .room) _ (used-is k) (c .before .before .before .before .if1 .left) (sym (c .before .all-small .ensures) ∙ c .if3 .left)
 
 pub used-after-spec : {M : Type 1} → statement M
 used-after-spec =

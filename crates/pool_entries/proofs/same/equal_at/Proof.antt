@@ -38,13 +38,5 @@ returns-3 c =
 pub equal-at-spec : {M : Type 1} → statement M
 equal-at-spec =
     tie.close
-    (tie.spec
-    returns
-    (λ c κs. search needs)
-    (λ c. search needs)
-    (λ c. search needs)
-    (λ c. search needs)
-    part-same-end
-    (λ c κs. search needs)
-    returns-2
-    returns-3)
+    (tie.spec returns (λ c κs. search needs) (λ c. search needs) (λ c. search needs) (λ c. search needs) part-same-end (λ c κs. search needs)
+    returns-2 returns-3)

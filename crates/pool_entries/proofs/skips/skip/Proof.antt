@@ -44,14 +44,4 @@ returns-2 c = c .before .before .loop .inv
 pub skip-spec : {M : Type 1} → statement M
 skip-spec =
     tie.close
-    (tie.spec
-    Inv-loop
-    μ-loop
-    loop-holds
-    sub-if1
-    skip-four-requires
-    add-if2
-    returns
-    loop-less
-    loop-again
-    returns-2)
+    (tie.spec Inv-loop μ-loop loop-holds sub-if1 skip-four-requires add-if2 returns loop-less loop-again returns-2)

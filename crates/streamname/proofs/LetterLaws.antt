@@ -1,10 +1,10 @@
 -- Laws of the 64 letters: the code's table has the list's places, its ranges give each number's letter, and a letter's number gives
 -- it back. Each is one computed test: over the 128 units of the table, over those below 0x7B, past which there is no letter, or over
 -- all 64 numbers.
-use Prim.Native.Nat.{ℕ, zero, suc, _+_, _-_, _≤_, _<_}
+use Prim.Native.Nat.{ℕ, _+_, _-_, _≤_, _<_}
 use mathlib.Core.Path.{_≡_, refl, sym, ap, _∙_}
 use mathlib.Core.Bool.{Bool, true, false, _&&_}
-use mathlib.Core.List.{List, [], _∷_, map}
+use mathlib.Core.List.{List, [], _∷_}
 use mathlib.Core.Option.{Option, none, some}
 use native.Mathlib.Omega.{arith}
 use native.Mathlib.Nat.{zero-add}

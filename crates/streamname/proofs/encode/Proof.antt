@@ -52,34 +52,23 @@ add-t13 c = omega (arith, c .before .before .write-encoded .ensures .ends, encod
 
 returns-3 : tie.Need-returns-3
 returns-3 c =
-    let s = c .before .before .before .before .before .before .before .before .before .before in
+    let roomy = c .before .before .before .before .before in
+    let s = roomy .before .before .before .before .before in
     let put = c .before .before .write-encoded .ensures in
     let t = c .before .before .before .before .if3 .taken in
-    encode-done (Name s) (s .args .is-table) (Out s) (c .before .before .before .before .before .before .before .if1 .left) _ _ (fits (c .before .before .before .before .before)) (rw t (omega (arith, put .ends)))
+    encode-done (Name s) (s .args .is-table) (Out s) (roomy .before .before .if1 .left) _ _ (fits roomy) (rw t (omega (arith, put .ends)))
     (rw t (prefixed (Out s) 0x4840 (encoded (Name s)) _ (omega (arith, table-fits (c .before .before .before .before))) (put .stands)))
 
 returns-4 : tie.Need-returns-4
 returns-4 c =
-    let s = c .before .before .before .before .before .before .before .before .before .before in
+    let roomy = c .before .before .before .before .before in
+    let s = roomy .before .before .before .before .before in
     let put = c .before .before .write-encoded2 .ensures in
     let t = c .before .before .before .before .if3 .left in
-    encode-done (Name s) (s .args .is-table) (Out s) (c .before .before .before .before .before .before .before .if1 .left) _ _ (fits (c .before .before .before .before .before)) (rw t (omega (arith, put .ends))) (rw t (put .stands))
+    encode-done (Name s) (s .args .is-table) (Out s) (roomy .before .before .if1 .left) _ _ (fits roomy) (rw t (omega (arith, put .ends))) (rw t (put .stands))
 
 pub encode-spec : {M : Type 1} → statement M
 encode-spec =
     tie.close
-    (tie.spec
-    returns
-    (λ c κs. search needs)
-    returns-2
-    slice-write-out
-    sub-write-encoded
-    part-write-encoded-start
-    (λ c. search needs)
-    write-encoded-requires
-    add-t13
-    same-length
-    returns-3
-    write-encoded-requires-2
-    (λ c. search needs)
-    returns-4)
+    (tie.spec returns (λ c κs. search needs) returns-2 slice-write-out sub-write-encoded part-write-encoded-start (λ c. search needs)
+    write-encoded-requires add-t13 same-length returns-3 write-encoded-requires-2 (λ c. search needs) returns-4)

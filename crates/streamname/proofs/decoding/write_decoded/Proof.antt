@@ -51,16 +51,5 @@ returns c =
 pub write-decoded-spec : {M : Type 1} → statement M
 write-decoded-spec =
     tie.close
-    (tie.spec
-    Inv-loop
-    μ-loop
-    loop-holds
-    (λ c. omega arith)
-    (λ c. omega arith)
-    (λ c κs. tt)
-    put-units-requires
-    (λ c. omega arith)
-    (λ c. omega arith)
-    loop-again
-    same-length
-    returns)
+    (tie.spec Inv-loop μ-loop loop-holds (λ c. omega arith) (λ c. omega arith) (λ c κs. tt) put-units-requires (λ c. omega arith) (λ c. omega arith)
+    loop-again same-length returns)

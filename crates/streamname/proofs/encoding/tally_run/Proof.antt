@@ -25,8 +25,9 @@ add-units c = omega (arith, c .before .before .loop .inv .1 .fewer)
 
 returns : tie.Need-returns Inv-loop μ-loop
 returns c =
-    let front = c .before .before .before .before .before .pack .ensures in
-    (omega (arith, front .moves), rw (c .before .is-allowed .ensures) (tally-one _ _ _ (c .before .before .before .before .before .before .before .loop .inv .1) front (omega arith)))
+    let packed = c .before .before .before .before .before in
+    let front = packed .pack .ensures in
+    (omega (arith, front .moves), rw (c .before .is-allowed .ensures) (tally-one _ _ _ (packed .before .before .loop .inv .1) front (omega arith)))
 
 loop-again : tie.Need-loop-again Inv-loop μ-loop
 loop-again c = (omega arith, tally-pair _ _ _ (c .before .before .before .before .before .loop .inv .1) (c .before .before .before .pack .ensures) (omega arith))
@@ -37,18 +38,7 @@ returns-2 c = (omega arith, c .before .loop .inv .1)
 pub tally-run-spec : {M : Type 1} → statement M
 tally-run-spec =
     tie.close
-    (tie.spec
-    Inv-loop
-    μ-loop
-    loop-holds
-    pack-requires
-    add-units
-    (λ c. omega arith)
-    (λ c. c .before .before .before .before .loop-test .taken)
-    (λ c κs. tt)
-    (λ c. omega (arith, c .before .before .before .before .before .pack .ensures .within))
-    returns
-    (λ c. omega (arith, c .before .before .before .pack .ensures .within))
-    (λ c. omega (arith, c .before .before .before .pack .ensures .moves))
-    loop-again
-    returns-2)
+    (tie.spec Inv-loop μ-loop loop-holds pack-requires add-units (λ c. omega arith) (λ c. c .before .before .before .before .loop-test .taken)
+    (λ c κs. tt) (λ c. omega (arith, c .before .before .before .before .before .pack .ensures .within)) returns
+    (λ c. omega (arith, c .before .before .before .pack .ensures .within)) (λ c. omega (arith, c .before .before .before .pack .ensures .moves))
+    loop-again returns-2)

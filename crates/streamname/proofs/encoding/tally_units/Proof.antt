@@ -25,12 +25,5 @@ returns c = tallied-all _ _ (c .before .before .loop .inv) (c .if1 .left)
 pub tally-units-spec : {M : Type 1} → statement M
 tally-units-spec =
     tie.close
-    (tie.spec
-    Inv-loop
-    μ-loop
-    (λ c κs. tt)
-    loop-holds
-    tally-run-requires
-    (λ c. omega (arith, c .tally-run .ensures .0))
-    (λ c. c .tally-run .ensures .1)
-    returns)
+    (tie.spec Inv-loop μ-loop (λ c κs. tt) loop-holds tally-run-requires (λ c. omega (arith, c .tally-run .ensures .0))
+    (λ c. c .tally-run .ensures .1) returns)

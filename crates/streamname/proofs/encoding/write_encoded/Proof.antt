@@ -41,17 +41,5 @@ returns c =
 pub write-encoded-spec : {M : Type 1} → statement M
 write-encoded-spec =
     tie.close
-    (tie.spec
-    Inv-loop
-    μ-loop
-    (λ c κs. tt)
-    loop-holds
-    (λ c κs. (c .before .loop-test .taken, c .before .before .before .numbers .ensures))
-    mul-out
-    slice-write-out
-    add-at
-    (λ c. omega arith)
-    (λ c. omega arith)
-    loop-again
-    same-length
-    returns)
+    (tie.spec Inv-loop μ-loop (λ c κs. tt) loop-holds (λ c κs. (c .before .loop-test .taken, c .before .before .before .numbers .ensures)) mul-out
+    slice-write-out add-at (λ c. omega arith) (λ c. omega arith) loop-again same-length returns)

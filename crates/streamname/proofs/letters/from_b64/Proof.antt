@@ -22,13 +22,4 @@ returns-5 c = rw (spelled-is _ (c .before .before .pre)) (simp (le-ltb _ _ (c .b
 pub from-b64-spec : {M : Type 1} → statement M
 from-b64-spec =
     tie.close
-    (tie.spec
-    (λ c. search needs)
-    (λ c. search needs)
-    returns
-    returns-2
-    returns-3
-    (λ c. search needs)
-    returns-4
-    (λ c. search needs)
-    returns-5)
+    (tie.spec (λ c. search needs) (λ c. search needs) returns returns-2 returns-3 (λ c. search needs) returns-4 (λ c. search needs) returns-5)

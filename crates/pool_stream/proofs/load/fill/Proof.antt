@@ -38,7 +38,10 @@ left s i at h e = let f : length s - i ≡ suc (length s - (i + 1)) = omega arit
 -- the entry that was found
 found : (c : tie.After-known-told Inv-loop μ-loop)
     → entryIn (drop (c .before .before .before .before .before .before .loop .at) (c .before .before .before .before .before .before .before .before .before .before .args .s .now)) ≡ foundAs (c .before .before .before .first-entry .result)
-found c = ap entryIn (sym (tail-part (c .before .before .before .before .before .before .loop .at) (c .before .before .before .before .before .before .before .before .before .before .args .s .now))) ∙ sym (c .before .before .before .first-entry .ensures)
+found c =
+    let at-loop = c .before .before .before .before .before .before in
+    let s = c .before .before .before .before .before .before .before .before .before .before in
+    ap entryIn (sym (tail-part (at-loop .loop .at) (s .args .s .now))) ∙ sym (c .before .before .before .first-entry .ensures)
 
 loop-holds : tie.Need-loop-holds Inv-loop μ-loop
 loop-holds c =
@@ -53,29 +56,40 @@ same-length-2 c = c .before .before .before .before .loop .inv .1 .long
 
 returns : tie.Need-returns Inv-loop μ-loop
 returns c =
+    let s' = c .before .before .before .before .before .before .before .before in
     let l = c .before .before .before .before .loop in
-    let s : List ℕ = c .before .before .before .before .before .before .before .before .args .s .now in
-    let f = c .before .before .before .before .before .before .before .before .pre in
+    let s : List ℕ = s' .args .s .now in
+    let f = s' .pre in
     let o = is-one s (length s - (l .i + 1)) (l .at) (lengthsIn s) (countsIn s) (l .i) (omega (arith, f .many)) (omega (arith, f .even)) (left s (l .i) (l .at) (omega arith) (l .inv .4))
     (c .before .first-entry .result) (c .before .first-entry .ensures ∙ ap entryIn (tail-part (l .at) s)) in
     absurd (⊎-elim (λ w. omega arith) (λ w. omega arith) (rw (o .4) at (c .match .keys2)))
 
 slice-write-lengths : tie.Need-slice-write-lengths Inv-loop μ-loop
-slice-write-lengths c = omega (arith, c .before .before .before .before .before .before .loop .inv .0 .long, c .before .before .before .before .before .before .before .before .before .before .pre .long)
+slice-write-lengths c =
+    let at-loop = c .before .before .before .before .before .before in
+    let s = c .before .before .before .before .before .before .before .before .before .before in
+    omega (arith, at-loop .loop .inv .0 .long, s .pre .long)
 
 slice-write-counts : tie.Need-slice-write-counts Inv-loop μ-loop
-slice-write-counts c = omega (arith, c .before .before .before .before .before .before .loop .inv .1 .long, c .before .before .before .before .before .before .before .before .before .before .pre .counted)
+slice-write-counts c =
+    let at-loop = c .before .before .before .before .before .before in
+    let s = c .before .before .before .before .before .before .before .before .before .before in
+    omega (arith, at-loop .loop .inv .1 .long, s .pre .counted)
 
 add-at : tie.Need-add-at Inv-loop μ-loop
 add-at c =
-    let a = found-size (drop (c .before .before .before .before .before .before .loop .at) (c .before .before .before .before .before .before .before .before .before .before .args .s .now)) _ _ _ _ (found c ∙ ap foundAs (c .before .entry .given .1)) in
-    omega (arith, a, length-drop (c .before .before .before .before .before .before .loop .at) (c .before .before .before .before .before .before .before .before .before .before .args .s .now))
+    let at-loop = c .before .before .before .before .before .before in
+    let s = c .before .before .before .before .before .before .before .before .before .before in
+    let a = found-size (drop (at-loop .loop .at) (s .args .s .now)) _ _ _ _ (found c ∙ ap foundAs (c .before .entry .given .1)) in
+    omega (arith, a, length-drop (at-loop .loop .at) (s .args .s .now))
 
 loop-again : tie.Need-loop-again Inv-loop μ-loop
 loop-again c =
-    let l = c .before .before .before .before .before .before .loop in
-    let s : List ℕ = c .before .before .before .before .before .before .before .before .before .before .args .s .now in
-    let f = c .before .before .before .before .before .before .before .before .before .before .pre in
+    let at-loop = c .before .before .before .before .before .before in
+    let s' = c .before .before .before .before .before .before .before .before .before .before in
+    let l = at-loop .loop in
+    let s : List ℕ = s' .args .s .now in
+    let f = s' .pre in
     let e = found c ∙ ap foundAs (c .before .entry .given .1) in
     let a = found-size (drop (l .at) s) _ _ _ _ e in
     let m = one-more s (length s - (l .i + 1)) (l .at) (lengthsIn s) (countsIn s) (l .i) (omega (arith, f .many)) (omega (arith, f .even)) (left s (l .i) (l .at) (omega arith) (l .inv .4)) _ _ _ _ e in (

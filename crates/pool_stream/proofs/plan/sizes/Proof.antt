@@ -21,7 +21,9 @@ abbrev μ-loop : tie.MeasureT-loop
 -- the entry that was found
 found : (c : tie.After-known-told Inv-loop μ-loop)
     → entryIn (drop (c .before .before .before .before .before .loop .at) (c .before .before .before .before .before .before .before .args .s .now)) ≡ foundAs (c .before .before .before .first-entry .result)
-found c = ap entryIn (sym (tail-part (c .before .before .before .before .before .loop .at) (c .before .before .before .before .before .before .before .args .s .now))) ∙ sym (c .before .before .before .first-entry .ensures)
+found c =
+    let s = c .before .before .before .before .before .before .before in
+    ap entryIn (sym (tail-part (c .before .before .before .before .before .loop .at) (s .args .s .now))) ∙ sym (c .before .before .before .first-entry .ensures)
 
 loop-holds : tie.Need-loop-holds Inv-loop μ-loop
 loop-holds c = (omega arith, omega arith, omega arith, more-none _ ∙ ap (λ (f : ℕ). more 0 0 (sizesOf (entriesIn f (drop 4 (c .before .args .s .now))))) (sym (sub-zero (length (c .before .args .s .now)))))
@@ -43,15 +45,17 @@ add-sum c = omega (arith, c .known-told .given)
 
 add-at : tie.Need-add-at Inv-loop μ-loop
 add-at c =
+    let s = c .before .before .before .before .before .before .before in
     let g = c .before .entry .given in
-    let a = found-size (drop (c .before .before .before .before .before .loop .at) (c .before .before .before .before .before .before .before .args .s .now)) _ _ _ _ (found c ∙ ap foundAs (g .1)) in
-    omega (arith, a, length-drop (c .before .before .before .before .before .loop .at) (c .before .before .before .before .before .before .before .args .s .now))
+    let a = found-size (drop (c .before .before .before .before .before .loop .at) (s .args .s .now)) _ _ _ _ (found c ∙ ap foundAs (g .1)) in
+    omega (arith, a, length-drop (c .before .before .before .before .before .loop .at) (s .args .s .now))
 
 loop-less : tie.Need-loop-less Inv-loop μ-loop
 loop-less c =
+    let s = c .before .before .before .before .before .before .before in
     let g = c .before .entry .given in
-    let a = found-size (drop (c .before .before .before .before .before .loop .at) (c .before .before .before .before .before .before .before .args .s .now)) _ _ _ _ (found c ∙ ap foundAs (g .1)) in
-    omega (arith, a, length-drop (c .before .before .before .before .before .loop .at) (c .before .before .before .before .before .before .before .args .s .now))
+    let a = found-size (drop (c .before .before .before .before .before .loop .at) (s .args .s .now)) _ _ _ _ (found c ∙ ap foundAs (g .1)) in
+    omega (arith, a, length-drop (c .before .before .before .before .before .loop .at) (s .args .s .now))
 
 loop-again : tie.Need-loop-again Inv-loop μ-loop
 loop-again c =

@@ -30,13 +30,15 @@ write-entry-requires c κs =
 
 add-at : tie.Need-add-at Inv-loop μ-loop
 add-at c =
-    let l = c .before .before .before .before .before .before .before .loop in
+    let at-loop = c .before .before .before .before .before .before .before in
+    let l = at-loop .loop in
     let s = c .before .before .before .before .before .before .before .before .before .before .before in
     omega (arith, turn-room (s .args .lengths .now) (s .args .counts .now) (s .args .out .now) (s .args .n) (l .i) (s .pre .0) (s .pre .1) (omega arith) (s .pre .2), c .before .before .write-entry .ensures .0, l .inv, s .good)
 
 loop-again : tie.Need-loop-again Inv-loop μ-loop
 loop-again c =
-    let l = c .before .before .before .before .before .before .before .loop in
+    let at-loop = c .before .before .before .before .before .before .before in
+    let l = at-loop .loop in
     let s = c .before .before .before .before .before .before .before .before .before .before .before in
     let x : List ℕ = entryBytes (getD (s .args .lengths .now) (l .i) 0) (getD (s .args .counts .now) (l .i) 0) in
     let room = turn-room (s .args .lengths .now) (s .args .counts .now) (s .args .out .now) (s .args .n) (l .i) (s .pre .0) (s .pre .1) (omega arith) (s .pre .2) in (

@@ -17,14 +17,17 @@ returns c =
 
 returns-2 : tie.Need-returns-2
 returns-2 c =
+    let at-write = c .before .before .before .before .before .before in
+    let at-if1 = c .before .before .before .before .before .before .before .before in
+    let at-entries-size = c .before .before .before .before .before .before .before .before .before in
     let s = c .before .before .before .before .before .before .before .before .before .before .before .before .before in
     let o : List ℕ = s .args .out .now in
     let E : List ℕ = entriesBytes (take (s .args .n) (s .args .lengths .now)) (take (s .args .n) (s .args .counts .now)) in
     let S : List ℕ = streamBy (s .args .mark) (s .args .n) (s .args .lengths .now) (s .args .counts .now) in
     let l : length S ≡ 4 + length E = omega arith in
-    let room : length S ≤ length o = omega (arith, c .before .before .before .before .before .before .before .before .before .entries-size .ensures, c .before .before .before .before .before .before .before .before .if1 .left) in
-    write-done S o _ _ room (ap (λ (k : ℕ). 4 + k) (c .before .before .before .before .before .before .before .before .before .entries-size .ensures .0) ∙ sym l)
-    (marked (bytesOf 4 (s .args .mark)) E o _ _ refl (omega arith) (wrote (s .args .mark) 4 o 0 (omega arith) (c .before .before .before .before .before .before .write .ensures)) (c .before .before .write-entries .ensures))
+    let room : length S ≤ length o = omega (arith, at-entries-size .entries-size .ensures, at-if1 .if1 .left) in
+    write-done S o _ _ room (ap (λ (k : ℕ). 4 + k) (at-entries-size .entries-size .ensures .0) ∙ sym l)
+    (marked (bytesOf 4 (s .args .mark)) E o _ _ refl (omega arith) (wrote (s .args .mark) 4 o 0 (omega arith) (at-write .write .ensures)) (c .before .before .write-entries .ensures))
 
 pub write-fitting-spec : {M : Type 1} → statement M
 write-fitting-spec =

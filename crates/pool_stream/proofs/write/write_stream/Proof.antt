@@ -48,8 +48,9 @@ returns c =
 
 returns-2 : tie.Need-returns-2
 returns-2 c =
+    let at-judge = c .before .before .before .before .before .before .before in
     let s = c .before .before .before .before .before .before .before .before .before .before .before .before in
-    let e = sym (ap judgedAs (c .before .before .before .before .before .enum-told .given .1)) ∙ c .before .before .before .before .before .before .before .judge .ensures in
+    let e = sym (ap judgedAs (c .before .before .before .before .before .enum-told .given .1)) ∙ at-judge .judge .ensures in
     c .before .before .write-fitting .ensures
     ∙ ap (λ (m : ℕ). outcome (Out s) (writtenTo (Out s) (streamBy m (s .args .num-strings) (s .args .lengths .now) (s .args .counts .now)))) (c .before .before .before .before .mark .ensures)
     ∙ ap (λ (x : List ℕ). outcome (Out s) (writtenTo (Out s) x)) (stream-same (s .args .num-strings) (s .args .long-string-refs) (s .args .codepage) (W s) (passed s e .fit))

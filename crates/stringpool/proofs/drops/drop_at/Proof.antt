@@ -67,10 +67,11 @@ cast-t16 c = let s = c .before .before .before .before .before .before .before .
 
 returns-3 : tie.Need-returns-3
 returns-3 c =
+    let at-count-of = c .before .before .before .before .before .before in
     λ ts h size.
     let s = c .before .before .before .before .before .before .before .before .before in
     rw (c .before .start-of .ensures, s .pre .3)
-    (drop-last (s .args .p) (W s ts) (fit s ts h) (k s) (fits (c .before .before .before)) (s .pre .2) size (omega (arith, c .before .before .if1 .left, c .before .before .before .before .before .before .count-of .ensures)))
+    (drop-last (s .args .p) (W s ts) (fit s ts h) (k s) (fits (c .before .before .before)) (s .pre .2) size (omega (arith, c .before .before .if1 .left, at-count-of .count-of .ensures)))
 
 pub drop-at-spec : {M : Type 1} → statement M
 drop-at-spec =

@@ -20,13 +20,15 @@ enum-told c = search needs
 
 put-requires : tie.Need-put-requires
 put-requires c κs =
-    let s = c .before .before .before .before .before .before .args in
+    let s = c .before .before .before .before .before .before in
+    let s = s .args in
     let f = fits-so (length (s .text .now)) (s .start) (s .old) (s .used) (length (s .new .now)) (sym (c .before .before .before .replace-fits .ensures) ∙ ap fitsAs (c .before .enum-told .given .1)) in
     (f .inside, f .within, f .roomy)
 
 returns : tie.Need-returns
 returns c =
-    let s = c .before .before .before .before .before .before .args in
+    let s = c .before .before .before .before .before .before in
+    let s = s .args in
     by-fits (s .text .now) (s .start) (s .old) (s .used) (s .new .now) (ap fitsAs (sym (c .before .fits2 .given .1)) ∙ c .before .before .before .replace-fits .ensures)
 
 same-length : tie.Need-same-length
@@ -34,9 +36,11 @@ same-length c = search needs
 
 returns-2 : tie.Need-returns-2
 returns-2 c =
-    let s = c .before .before .before .before .before .before .before .before .before .args in
+    let at-replace-fits = c .before .before .before .before .before .before in
+    let s = c .before .before .before .before .before .before .before .before .before in
+    let s = s .args in
     ap (λ (x : List ℕ). (gives tt, x)) (c .before .before .put .ensures)
-    ∙ by-fits (s .text .now) (s .start) (s .old) (s .used) (s .new .now) (ap fitsAs (sym (c .before .before .before .before .enum-told .given .1)) ∙ c .before .before .before .before .before .before .replace-fits .ensures)
+    ∙ by-fits (s .text .now) (s .start) (s .old) (s .used) (s .new .now) (ap fitsAs (sym (c .before .before .before .before .enum-told .given .1)) ∙ at-replace-fits .replace-fits .ensures)
 
 pub replace-spec : {M : Type 1} → statement M
 replace-spec =

@@ -16,10 +16,12 @@ carry-out-requires c κs = c .before .before .before .before .plan-drop .ensures
 
 returns : tie.Need-returns
 returns c =
+    let at-carry-out = c .before .before .before .before .before .before .before in
+    let at-plan-drop = c .before .before .before .before .before .before .before .before .before .before .before .before in
     let s = c .before .before .before .before .before .before .before .before .before .before .before .before .before .before .before .before .before .before .before in
     let z : ℤ = s .args .number in
     let back : toZ w32 (ofZ w32 z) ≡ z = toZ-ofZ w32 z (search needs) in
-    ap₂ (λ (x : Answer StringPool) (y : Rooms). (x, y)) (c .drop-answer .ensures) (c .before .before .before .before .before .before .before .carry-out .ensures) ∙ c .before .before .before .before .before .before .before .before .before .before .before .before .plan-drop .ensures .is
+    ap₂ (λ (x : Answer StringPool) (y : Rooms). (x, y)) (c .drop-answer .ensures) (at-carry-out .carry-out .ensures) ∙ at-plan-drop .plan-drop .ensures .is
     ∙ ap (dropOutcome (s .args .self) (rooms (s .args .lengths .now) (s .args .counts .now) (s .args .text .now))) back
 
 pub decref-spec : {M : Type 1} → statement M

@@ -12,10 +12,15 @@ carry-out-requires : tie.Need-carry-out-requires
 carry-out-requires c κs = c .before .before .before .plan-take .ensures .ready
 
 take-answer-requires : tie.Need-take-answer-requires
-take-answer-requires c κs = let s = c .before .before .before .before .before .before .before .before .before .before .before .before .before .before .before .before .before .before in numbered (rooms (s .args .lengths .now) (s .args .counts .now) (s .args .text .now)) (s .args .new .now) (c .before .before .before .before .before .before .before .before .before .before .plan-take .result) (c .before .before .before .before .before .before .before .before .before .before .plan-take .ensures .ready)
+take-answer-requires c κs =
+    let at-plan-take = c .before .before .before .before .before .before .before .before .before .before in
+    let s = c .before .before .before .before .before .before .before .before .before .before .before .before .before .before .before .before .before .before in numbered (rooms (s .args .lengths .now) (s .args .counts .now) (s .args .text .now)) (s .args .new .now) (at-plan-take .plan-take .result) (at-plan-take .plan-take .ensures .ready)
 
 returns : tie.Need-returns
-returns c = ap₂ (λ (x : Answer (ℤ × StringPool)) (y : Rooms). (x, y)) (c .take-answer .ensures) (c .before .before .before .before .before .before .before .carry-out .ensures) ∙ c .before .before .before .before .before .before .before .before .before .before .before .plan-take .ensures .is
+returns c =
+    let at-carry-out = c .before .before .before .before .before .before .before in
+    let at-plan-take = c .before .before .before .before .before .before .before .before .before .before .before in
+    ap₂ (λ (x : Answer (ℤ × StringPool)) (y : Rooms). (x, y)) (c .take-answer .ensures) (at-carry-out .carry-out .ensures) ∙ at-plan-take .plan-take .ensures .is
 
 pub incref-spec : {M : Type 1} → statement M
 incref-spec =

@@ -25,8 +25,9 @@ slice-aggregate-copy-in c =
 
 returns : tie.Need-returns
 returns c =
+    let at-load-entries = c .before .before .before .before .before .before .before in
     let s = c .before .before .before .before .before .before .before .before .before .before .before .before .before .before .before .before in
-    load-refused (pool s) (texts s) (W s) (c .before .plan .given .0 .0) _ (by-plan (pool s) (texts s) (W s) (c .before .plan .given .1) (c .before .before .before .before .before .before .before .load-entries .ensures))
+    load-refused (pool s) (texts s) (W s) (c .before .plan .given .0 .0) _ (by-plan (pool s) (texts s) (W s) (c .before .plan .given .1) (at-load-entries .load-entries .ensures))
 
 returns-2 : tie.Need-returns-2
 returns-2 c =

@@ -41,8 +41,9 @@ returns c =
 
 returns-2 : tie.Need-returns-2
 returns-2 c =
+    let at-judge = c .before .before .before .before .before .before .before in
     let s = c .before .before .before .before .before .before .before .before .before .before .before .before in
-    let e = sym (ap judgedAs (c .before .before .before .before .before .state2 .given .1)) ∙ c .before .before .before .before .before .before .before .judge .ensures in
+    let e = sym (ap judgedAs (c .before .before .before .before .before .state2 .given .1)) ∙ at-judge .judge .ensures in
     c .before .before .write-texts .ensures
     ∙ ap (λ (x : List ℕ). outcome (s .args .out .now) (writtenTo (s .args .out .now) x)) (data-same (s .args .self) (W s) (call-passed (n s) (s .args .self .codepage) (W s) (Used s) e .fit) (call-given (n s) (s .args .self .codepage) (W s) (Used s) e))
     ∙ ap (outcome (s .args .out .now)) (call-on (n s) (s .args .self .codepage) (W s) (Used s) e (Bytes s))

@@ -17,8 +17,11 @@ New s = now (s .args .new)
 
 returns : tie.Need-returns
 returns c =
+    let at-incref = c .before .before .before .before .before .before .before in
+    let at-if1 = c .before .before .before .before .before .before .before .before .before .before .before in
+    let at-is-text = c .before .before .before .before .before .before .before .before .before .before .before .before in
     let s = c .before .before .before .before .before .before .before .before .before .before .before .before .before .before .before .before .before in
-    rw (c .created-of .ensures) (create-text (s .args .value) (New s) (s .args .pool) (Was s) _ (c .before .before .before .before .before .before .before .incref .result) (sym (c .before .before .before .before .before .before .before .before .before .before .before .before .is-text .ensures) ∙ c .before .before .before .before .before .before .before .before .before .before .before .if1 .taken) (c .before .before .before .before .before .before .before .incref .ensures))
+    rw (c .created-of .ensures) (create-text (s .args .value) (New s) (s .args .pool) (Was s) _ (at-incref .incref .result) (sym (at-is-text .is-text .ensures) ∙ at-if1 .if1 .taken) (at-incref .incref .ensures))
 
 returns-2 : tie.Need-returns-2
 returns-2 c =
@@ -27,13 +30,19 @@ returns-2 c =
 
 returns-3 : tie.Need-returns-3
 returns-3 c =
+    let at-if2 = c .before .before .before .before .before .before .before in
+    let at-if1 = c .before .before .before .before .before .before .before .before in
+    let at-is-text = c .before .before .before .before .before .before .before .before .before in
     let s = c .before .before .before .before .before .before .before .before .before .before .before .before .before .before in
-    create-refused (s .args .value) (New s) (s .args .pool) (Was s) (sym (c .before .before .before .before .before .before .before .before .before .is-text .ensures) ∙ c .before .before .before .before .before .before .before .before .if1 .left) (c .before .before .before .before .before .before .before .if2 .left) _ (c .before .sound .given .0 .0) (sym (ap showableAs (c .before .sound .given .1)) ∙ c .before .before .before .get-refusal .ensures)
+    create-refused (s .args .value) (New s) (s .args .pool) (Was s) (sym (at-is-text .is-text .ensures) ∙ at-if1 .if1 .left) (at-if2 .if2 .left) _ (c .before .sound .given .0 .0) (sym (ap showableAs (c .before .sound .given .1)) ∙ c .before .before .before .get-refusal .ensures)
 
 returns-4 : tie.Need-returns-4
 returns-4 c =
+    let at-if2 = c .before .before .before .before .before .before .before in
+    let at-if1 = c .before .before .before .before .before .before .before .before in
+    let at-is-text = c .before .before .before .before .before .before .before .before .before in
     let s = c .before .before .before .before .before .before .before .before .before .before .before .before .before .before in
-    rw (c .plain-of .ensures) (create-plain (s .args .value) (New s) (s .args .pool) (Was s) (sym (c .before .before .before .before .before .before .before .before .before .is-text .ensures) ∙ c .before .before .before .before .before .before .before .before .if1 .left) (c .before .before .before .before .before .before .before .if2 .left) _ (sym (ap showableAs (c .before .enum-told .given .1)) ∙ c .before .before .before .get-refusal .ensures))
+    rw (c .plain-of .ensures) (create-plain (s .args .value) (New s) (s .args .pool) (Was s) (sym (at-is-text .is-text .ensures) ∙ at-if1 .if1 .left) (at-if2 .if2 .left) _ (sym (ap showableAs (c .before .enum-told .given .1)) ∙ c .before .before .before .get-refusal .ensures))
 
 pub create-spec : {M : Type 1} → statement M
 create-spec =

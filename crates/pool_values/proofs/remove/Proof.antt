@@ -10,13 +10,18 @@ use Rattle.pool_values.proofs.remove.Tie as tie
 
 returns : tie.Need-returns
 returns c =
-    let n = toZ-ofZ {w = w32} {z = c .before .before .before .before .before .before .before .number .result} (record { sfits = c .before .before .before .before .before .before .before .number .ok }) ∙ c .before .before .before .before .before .before .before .number .ensures in
-    rw (sym (c .before .before .before .before .before .before .before .before .before .before .before .before .is-reference .ensures) ∙ c .before .before .before .before .before .before .before .before .before .before .before .if1 .taken) (rw n at (c .before .before .before .before .before .before .decref .ensures))
+    let at-decref = c .before .before .before .before .before .before in
+    let at-number = c .before .before .before .before .before .before .before in
+    let at-if1 = c .before .before .before .before .before .before .before .before .before .before .before in
+    let at-is-reference = c .before .before .before .before .before .before .before .before .before .before .before .before in
+    let n = toZ-ofZ {w = w32} {z = at-number .number .result} (record { sfits = at-number .number .ok }) ∙ at-number .number .ensures in
+    rw (sym (at-is-reference .is-reference .ensures) ∙ at-if1 .if1 .taken) (rw n at (at-decref .decref .ensures))
 
 returns-2 : tie.Need-returns-2
 returns-2 c =
+    let at-is-reference = c .before .before .before .before .before .before in
     let s = c .before .before .before .before .before .before .before .before .before .before in
-    rw (sym (c .before .before .before .before .before .before .is-reference .ensures) ∙ c .before .before .before .before .before .if1 .left, c .kept-by .ensures)
+    rw (sym (at-is-reference .is-reference .ensures) ∙ c .before .before .before .before .before .if1 .left, c .kept-by .ensures)
     (kept (s .args .pool) (rooms (now (s .args .lengths)) (now (s .args .counts)) (now (s .args .text))) _ (c .before .get-refusal .result) (c .before .get-refusal .ensures))
 
 pub remove-spec : {M : Type 1} → statement M

@@ -28,13 +28,13 @@ use internal::column::{Column, ColumnType};
 use internal::streamname;
 use internal::stringpool::{StringPool, StringPoolBuilder, StringRef};
 use internal::table::Table;
-use internal::value::ValueRef;
+use internal::value::{Value, ValueRef};
 use random::Random;
 use std::hint::black_box;
 use std::io::Cursor;
 use std::rc::Rc;
 use std::time::{Duration, Instant};
-use strandroost::calls::{self, Layout, Rooms, RoomsMut, State};
+use strandroost::calls::{self, KindAndNumber, Layout, Rooms, RoomsMut, State};
 
 /// The fewest rounds of a measurement, the time on the clock that is enough, and the time in all after which no round begins.
 const ROUNDS: usize = 5;
@@ -136,6 +136,11 @@ fn crate_ref(number: usize) -> StringRef {
     StringRef::read(&mut &bytes[..3], true).expect("three bytes").expect("a number above 0")
 }
 
+/// A cell that holds a text: its kind, and the number of its reference.
+fn text_cell(number: usize) -> KindAndNumber {
+    KindAndNumber { kind: 2, number: number as i32 }
+}
+
 impl Pools {
     fn new(entries: usize, mixed: bool) -> Pools {
         let (mut stream, mut data) = (0x8000_04e4u32.to_le_bytes().to_vec(), Vec::new());
@@ -154,23 +159,41 @@ impl Pools {
         made
     }
 
+    fn rooms(&self) -> Rooms<'_> {
+        Rooms { lengths: &self.lengths, counts: &self.counts, text: &self.text }
+    }
+
+    fn rooms_mut(&mut self) -> RoomsMut<'_> {
+        RoomsMut { lengths: &mut self.lengths, counts: &mut self.counts, text: &mut self.text }
+    }
+
     fn port_load(&mut self) -> State {
         let rooms = RoomsMut { lengths: &mut self.lengths, counts: &mut self.counts, text: &mut self.text };
         calls::load(&self.stream, &self.data, rooms).expect("rooms that suffice")
     }
 
-    fn rooms(&self) -> Rooms<'_> {
-        Rooms { lengths: &self.lengths, counts: &self.counts, text: &self.text }
-    }
-
     fn port_take(&mut self, text: &[u8]) {
-        let rooms = RoomsMut { lengths: &mut self.lengths, counts: &mut self.counts, text: &mut self.text };
-        self.state = calls::incref(self.state, rooms, text).expect("a take").1;
+        self.state = calls::incref(self.state, self.rooms_mut(), text).expect("a take").1;
     }
 
     fn port_drop(&mut self, number: usize) {
-        let rooms = RoomsMut { lengths: &mut self.lengths, counts: &mut self.counts, text: &mut self.text };
-        self.state = calls::decref(self.state, rooms, number as i32).expect("a drop");
+        self.state = calls::decref(self.state, self.rooms_mut(), number as i32).expect("a drop");
+    }
+
+    fn port_create(&mut self, text: &[u8]) {
+        self.state = calls::create(text_cell(0), text, self.state, self.rooms_mut()).expect("a take").1;
+    }
+
+    fn port_remove(&mut self, number: usize) {
+        self.state = calls::remove(text_cell(number), self.state, self.rooms_mut()).expect("a drop");
+    }
+
+    /// Gives the last entry references to spare, so that its text stays where ten are dropped.
+    fn spare(&mut self, last: &str) {
+        for _ in 0..10 {
+            self.krate.incref(last.to_string());
+            self.port_take(last.as_bytes());
+        }
     }
 
     fn bench_streams(&mut self, entries: usize) {
@@ -237,16 +260,9 @@ impl Pools {
         let port = timed(20, || (), |()| drop(black_box(calls::get(self.state, self.rooms(), middle as i32, &mut out))));
         self.out = out;
         show("get", entries, krate, port);
-        // The last entry has references to spare, so its text stays.
         let last = text_at(entries - 1, true);
-        let spare = |pools: &mut Pools| {
-            for _ in 0..10 {
-                pools.krate.incref(last.clone());
-                pools.port_take(last.as_bytes());
-            }
-        };
         let krate = |pool: &mut StringPool, number: usize| pool.decref(crate_ref(number));
-        self.compare("drop, text stays", entries, 10, spare, || entries, krate, Pools::port_drop);
+        self.compare("drop, text stays", entries, 10, |pools| pools.spare(&last), || entries, krate, Pools::port_drop);
         // Entries with one reference: the text goes, and the tail moves. Ten places after the middle, over and over.
         let mut at = 0;
         let next = || {
@@ -254,6 +270,25 @@ impl Pools {
             middle + at
         };
         self.compare("drop, text goes", entries, 10, |_| (), next, krate, Pools::port_drop);
+    }
+
+    /// Values that hold a text: taken into the pool, shown with it, and dropped where it stays.
+    fn bench_values(&mut self, entries: usize) {
+        let (middle, last) = (entries / 2, text_at(entries - 1, true));
+        let krate = |pool: &mut StringPool, text: String| drop(black_box(ValueRef::create(Value::Str(text), pool)));
+        let port = |pools: &mut Pools, text: String| pools.port_create(text.as_bytes());
+        self.compare("create, a text of the middle", entries, 20, |_| (), || text_at(middle, true), krate, port);
+        let krate = timed(20, || (), |()| drop(black_box(ValueRef::Str(crate_ref(middle)).to_value(&self.krate))));
+        let mut out = std::mem::take(&mut self.out);
+        // The port's call shows the value without its text, which a second one copies.
+        let port = timed(20, || (), |()| {
+            drop(black_box(calls::to_value(text_cell(middle), self.state, self.rooms())));
+            drop(black_box(calls::to_text(text_cell(middle), self.state, self.rooms(), &mut out)));
+        });
+        self.out = out;
+        show("to_value, a text", entries, krate, port);
+        let krate = |pool: &mut StringPool, number: usize| ValueRef::Str(crate_ref(number)).remove(pool);
+        self.compare("remove, text stays", entries, 10, |pools| pools.spare(&last), || entries, krate, Pools::port_remove);
     }
 }
 
@@ -273,6 +308,7 @@ fn bench_pools(sizes: &[usize]) {
             pools.bench_miss(&format!("take, new among {lengths} lengths"), entries);
             if mixed {
                 pools.bench_numbers(entries);
+                pools.bench_values(entries);
             }
         }
     }
@@ -293,11 +329,15 @@ fn table_stream(columns: &[Column], rows: usize) -> Vec<u8> {
     stream
 }
 
-fn bench_table(kind: &str, bits: &[i32], rows: usize) {
+/// A table of these columns on both sides, and a stream of so many rows.
+fn tables(bits: &[i32], rows: usize) -> (Rc<Table>, Layout, Vec<u8>) {
     let columns: Vec<Column> = bits.iter().map(|bits| Column::build("x").with_bitfield(*bits).expect("good bits")).collect();
     let stream = table_stream(&columns, rows);
-    let table: Rc<Table> = Table::new("T".into(), columns, false);
-    let layout = Layout::from_bitfields(bits, false).expect("good bits");
+    (Table::new("T".into(), columns, false), Layout::from_bitfields(bits, false).expect("good bits"), stream)
+}
+
+fn bench_table(kind: &str, bits: &[i32], rows: usize) {
+    let (table, layout, stream) = tables(bits, rows);
     let (mut kinds, mut numbers) = (vec![0u8; rows * bits.len()], vec![0i32; rows * bits.len()]);
     let times = 60_000 / rows + 1;
     let krate = timed(times, || (), |()| drop(black_box(table.read_rows(Cursor::new(&stream)).expect("good rows"))));
@@ -314,6 +354,32 @@ fn bench_table(kind: &str, bits: &[i32], rows: usize) {
         timed(times, || (), |()| drop(black_box(calls::write_rows(&layout, rows, &kinds, &numbers, &mut out))));
     show(&format!("write_rows{kind}"), rows, krate, port);
     assert!(out == stream, "the port wrote another stream");
+}
+
+/// Every cell of a table one by one, by its place and by the row reader: each call judges the layout anew. The crate has no call
+/// for one cell, so beside both stands its read of all rows, and a look at each cell.
+fn bench_cells(rows: usize) {
+    let (table, layout, stream) = tables(&BITS, rows);
+    let krate = timed(1, || (), |()| {
+        let cells = table.read_rows(Cursor::new(&stream)).expect("good rows");
+        cells.iter().flatten().for_each(|cell| drop(black_box(*cell)));
+    });
+    let port = timed(1, || (), |()| {
+        for place in 0..rows * BITS.len() {
+            drop(black_box(calls::read_cell(&layout, &stream, place / BITS.len(), place % BITS.len())));
+        }
+    });
+    show("read_cell, every cell", rows, krate, port);
+    let port = timed(1, || (), |()| {
+        let mut at = 0;
+        while let Ok(step) = calls::rows_next(&layout, &stream, at) {
+            at = step.at;
+            if black_box(step.cell).is_none() {
+                break;
+            }
+        }
+    });
+    show("row reader, every cell", rows, krate, port);
 }
 
 // ------------------------------------------------- every cell as a value
@@ -342,5 +408,7 @@ fn main() {
         bench_table("", &BITS, *rows);
         bench_table(", icons", &ICONS, *rows);
     }
+    // The cost of one cell does not grow with the rows.
+    bench_cells(1_000);
     bench_walk(34_000);
 }

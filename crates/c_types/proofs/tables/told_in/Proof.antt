@@ -10,7 +10,10 @@ returns : tie.Need-returns
 returns c = c .told .ensures ∙ at-nowhere (typeHanded (c .before .before .before .before .args .table)) (numberOf (c .before .before .before .before .args .why)) (ap placeAs (sym (c .before .enum-told .given .1)) ∙ c .before .before .before .place .ensures)
 
 returns-2 : tie.Need-returns-2
-returns-2 c = c .told-of .ensures ∙ same-type (λ k. c .before .type-at .result) (typeHanded (c .before .before .before .before .before .before .args .table)) (numberOf (c .before .before .before .before .before .before .args .why)) _ (ap placeAs (sym (c .before .before .before .place2 .given .1)) ∙ c .before .before .before .before .before .place .ensures) (c .before .type-at .ensures)
+returns-2 c =
+    let place = c .before .before .before .before .before in
+    let s = place .before .args in
+    c .told-of .ensures ∙ same-type (λ k. c .before .type-at .result) (typeHanded (s .table)) (numberOf (s .why)) _ (ap placeAs (sym (c .before .before .before .place2 .given .1)) ∙ place .place .ensures) (c .before .type-at .ensures)
 
 returns-3 : tie.Need-returns-3
 returns-3 c = c .told2 .ensures ∙ at-cell (typeHanded (c .before .before .before .before .args .table)) (numberOf (c .before .before .before .before .args .why)) _ _ (ap placeAs (sym (c .before .enum-told2 .given .1)) ∙ c .before .before .before .place .ensures)

@@ -63,7 +63,8 @@ returns-3 c =
     let shown = c .before .before .before .before .before .before .before in
     let made = shown .before .before .before in
     let s = Begun made in
-    let known = sym (c .before .before .before .before .before .before .is-unknown .ensures) ∙ c .before .before .before .before .before .if1 .left in
+    let tested = c .before .before .before .before .before in
+    let known = sym (tested .before .is-unknown .ensures) ∙ tested .if1 .left in
     got-given (Text s) (now (s .args .out)) (given-said (Text s) _ _ (asked shownAnswer (λ a. a) made (ap shownAs (sym (shown .enum-told .given .1)) ∙ shown .before .before .to-value .ensures)))
     (asked textAnswer orEmpty made (c .before .before .before .before .to-text .ensures)) (c .before .before .copied .ensures)
     ∙ ap (λ (a : Answer (List ℕ)). written (now (s .args .out)) (onGiven a (λ t. writtenTo (now (s .args .out)) t))) (kind-known (s .args .kind) (Text s) known)

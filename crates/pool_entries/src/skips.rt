@@ -16,6 +16,7 @@ pub(crate) fn length_at(lengths: &[u32], i: usize) -> usize
 }
 
 // Four entries from `from` on, where those before it use begin bytes: to the first whose length is size, or past all.
+// The four are added up among themselves, so that a turn waits for one addition to the sum before it.
 fn skip_four(lengths: &[u32], from: usize, size: usize, begin: usize) -> Step
     requires { ⌜ (from + 3 < length (now lengths)) × (from ≤ 16777215) × SumTo (now lengths) from begin ⌝ }
     ensures { λ r. ⌜ PassedBy (now (lengths .entry)) size from (from + 4) (r .0) (r .1) ⌝ }

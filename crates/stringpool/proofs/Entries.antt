@@ -17,31 +17,27 @@ use Rattle.stringpool.specs.inner.Entries.{Fit, firstEntries, lengthsOf,
 use Rattle.stringpool.specs.inner.Drop.{none}
 use Rattle.stringpool.specs.declared.pool.StringPool.{StringPool}
 use Rattle.text_room.proofs.Splice.{front, length-front}
-use Rattle.common.proofs.Lists.{map-set}
+use Rattle.common.proofs.Lists.{map-set, map-snoc}
 use Rattle.common.proofs.Sums.{total-in}
 pub use Rattle.pool_entries.proofs.Entries.{length-cut, getD-cut, both, length-entries, entry-at}
-
--- a constructor's argument out of an equation of lengths
-same : {m n : ℕ} → suc m ≡ suc n → m ≡ n
-same e = omega arith
 
 pub counts-cut : (ls cs ts : List ℕ) → length ls ≡ length cs → countsOf (cut ls cs ts) ≡ cs
 counts-cut [] [] ts h = refl
 counts-cut [] (c ∷ cs) ts h = absurd (omega arith)
 counts-cut (l ∷ ls) [] ts h = absurd (omega arith)
-counts-cut (l ∷ ls) (c ∷ cs) ts h = ap (λ (x : List ℕ). c ∷ x) (counts-cut ls cs (drop l ts) (same h))
+counts-cut (l ∷ ls) (c ∷ cs) ts h = ap (λ (x : List ℕ). c ∷ x) (counts-cut ls cs (drop l ts) (omega arith))
 
 pub lengths-cut : (ls cs ts : List ℕ) → length ls ≡ length cs → total ls ≤ length ts → lengthsOf (cut ls cs ts) ≡ ls
 lengths-cut [] cs ts h room = refl
 lengths-cut (l ∷ ls) [] ts h room = absurd (omega arith)
 lengths-cut (l ∷ ls) (c ∷ cs) ts h room =
     ap₂ (λ (k : ℕ) (x : List ℕ). k ∷ x) (length-take-le l ts (omega arith))
-    (lengths-cut ls cs (drop l ts) (same h) (simp length-drop (omega arith)))
+    (lengths-cut ls cs (drop l ts) (omega arith) (simp length-drop (omega arith)))
 
 pub texts-cut : (ls cs ts : List ℕ) → length ls ≡ length cs → texts (cut ls cs ts) ≡ take (total ls) ts
 texts-cut [] cs ts h = refl
 texts-cut (l ∷ ls) [] ts h = absurd (omega arith)
-texts-cut (l ∷ ls) (c ∷ cs) ts h = ap (λ (x : List ℕ). take l ts ++ x) (texts-cut ls cs (drop l ts) (same h)) ∙ sym (take-add l (total ls) ts)
+texts-cut (l ∷ ls) (c ∷ cs) ts h = ap (λ (x : List ℕ). take l ts ++ x) (texts-cut ls cs (drop l ts) (omega arith)) ∙ sym (take-add l (total ls) ts)
 
 -- the texts with one entry replaced
 pub texts-set : (ls cs ts : List ℕ) (k : ℕ) (e : Entry) → length ls ≡ length cs → k < length ls
@@ -51,7 +47,7 @@ texts-set (l ∷ ls) [] ts k e h hk = absurd (omega arith)
 texts-set (l ∷ ls) (c ∷ cs) ts zero e h hk =
     let f : total ls ≡ l + total ls - (0 + l) = omega arith in
     let g : l ≡ 0 + l = omega arith in
-    ap (λ (x : List ℕ). e .text ++ x) (texts-cut ls cs (drop l ts) (same h))
+    ap (λ (x : List ℕ). e .text ++ x) (texts-cut ls cs (drop l ts) (omega arith))
     ∙ ap₂ (λ (i j : ℕ). e .text ++ take i (drop j ts)) f g
 texts-set (l ∷ ls) (c ∷ cs) ts (suc k) e h hk =
     let s : ℕ = total (take k ls) in
@@ -59,7 +55,7 @@ texts-set (l ∷ ls) (c ∷ cs) ts (suc k) e h hk =
     let u : ℕ = total ls in
     let f : u - (s + o) ≡ l + u - (l + s + o) = omega arith in
     let g : l + (s + o) ≡ l + s + o = omega arith in
-    ap (λ (x : List ℕ). take l ts ++ x) (texts-set ls cs (drop l ts) k e (same h) (le-of-suc-le-suc hk))
+    ap (λ (x : List ℕ). take l ts ++ x) (texts-set ls cs (drop l ts) k e (omega arith) (le-of-suc-le-suc hk))
     ∙ sym (append-assoc (take l ts) (take s (drop l ts) ++ e .text) (take (u - (s + o)) (drop (s + o) (drop l ts))))
     ∙ ap (λ (x : List ℕ). x ++ take (u - (s + o)) (drop (s + o) (drop l ts))) (sym (append-assoc (take l ts) (take s (drop l ts)) (e .text)))
     ∙ ap₂ (λ (x y : List ℕ). x ++ e .text ++ take (u - (s + o)) y) (sym (take-add l s ts)) (drop-drop (s + o) l ts)
@@ -219,10 +215,6 @@ module _ (p : StringPool) (w : Rooms) (fit : Fit (p .«num_strings») w) (k : �
 pub texts-append : (xs ys : List Entry) → texts (xs ++ ys) ≡ texts xs ++ texts ys
 texts-append [] ys = refl
 texts-append (x ∷ xs) ys = ap (λ (r : List ℕ). x .text ++ r) (texts-append xs ys) ∙ sym (append-assoc (x .text) (texts xs) (texts ys))
-
-map-snoc : {A : Type 0} {B : Type 0} (f : A → B) (l : List A) (a : A) → map f (l ++ (a ∷ [])) ≡ map f l ++ (f a ∷ [])
-map-snoc f [] a = refl
-map-snoc {B = B} f (x ∷ l) a = ap (λ (r : List B). f x ∷ r) (map-snoc f l a)
 
 put-snoc : (n : ℕ) (l : List ℕ) (v : ℕ) → n < length l → take n l ++ (v ∷ []) ++ drop (suc n) l ≡ set l n v
 put-snoc n l v h = append-assoc (take n l) (v ∷ []) (drop (suc n) l) ∙ sym (set-split l n v h)

@@ -20,7 +20,6 @@ use Rattle.cell.specs.declared.form.ColumnType.the-variants.{Int16, Int32, Str,
 use Rattle.cell.specs.Cells.{isBinary, width}
 use Rattle.table.specs.declared.layout.Table.{Table}
 use Rattle.table.specs.Layout.{typesOf}
-use Rattle.common.proofs.Answers.{each-given}
 use Rattle.widths.specs.Widths.{rowSize, typeAt}
 use Rattle.widths.specs.Places.{cellStart}
 use Rattle.widths.proofs.Judged.{columns-passed}

@@ -18,13 +18,14 @@ use Rattle.cell.specs.declared.form.CellForm.{CellForm}
 use Rattle.cell.specs.Cells.{width}
 use Rattle.cell.specs.Forms.{formFor}
 use Rattle.cell.proofs.Cells.{form-width, form-stored, form-unstored}
-use Rattle.table.specs.declared.stride.Stride.{Stride}
+use Rattle.column_cells.specs.declared.stride.Stride.{Stride}
 use Rattle.widths.specs.Widths.{rowSize, typeAt}
 use Rattle.widths.proofs.Rows.{column-in}
 use Rattle.table.specs.Rows.{cellAt}
 use Rattle.table.specs.Writing.{Cells, cellBytes, columnBytes, tableBytes}
 use Rattle.table.specs.inner.Columns.{givenBytes, plain}
-use Rattle.table.specs.inner.Strides.{formWidth, cellNumber, formBytes, formCell}
+use Rattle.column_cells.specs.Strides.{formWidth, cellNumber, formCell}
+use Rattle.table.specs.inner.Strides.{formBytes}
 use Rattle.common.proofs.Answers.{given-refusal, each-same, each-made, fine-first}
 use Rattle.table.proofs.Plain.{all-given, plain-length}
 

@@ -13,10 +13,10 @@ use Rattle.common.proofs.Parts.{filled-part}
 use Rattle.common.proofs.Writing.{Writing, begin, rooms, steps-front, done-front}
 use Rattle.cell.proofs.Halves.{lt-or-le}
 use Rattle.table.specs.Rows.{rowByRow}
-use Rattle.table.specs.inner.Strides.{strided}
+use Rattle.column_cells.specs.Strides.{strided}
 use Rattle.table.specs.inner.Columns.{rowsFrom}
 use Rattle.common.proofs.Lists.{from-done, length-from, map-from}
-use Rattle.table.proofs.Strides.{next-le}
+use Rattle.column_cells.proofs.Strides.{next-le}
 
 -- ---- n of them from k on
 

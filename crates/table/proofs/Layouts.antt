@@ -29,7 +29,7 @@ module _ (t : Table) where
   lies bytes p e =
       let g = places-given (t .columns) (t .count) long bytes p e in
       let f = found (t .columns) (t .count) long bytes (p .rows) (g .0) in
-      record { narrow = f .narrow; is = g .1; few = f .few; within = rw (f .is) (rows-hold (typesOf t) long bytes) }
+      record { narrow = f .narrow; small = f .small; is = g .1; few = f .few; within = rw (f .is) (rows-hold (typesOf t) long bytes) }
 
   module _ (p : Places) (bytes : ℕ) (l : Lies t p bytes) (e : length (t .columns) ≡ 64) (c : ℕ) (h : c < t .count) where
     in-use : c < length (typesOf t)

@@ -1,5 +1,3 @@
-pub mod Strides
-pub mod Parts
 pub mod Plain
 pub mod Grid
 pub mod Judged

@@ -1,7 +1,7 @@
 // One column's cells, all of which can be stored, written row by row from the front of an output on.
-use crate::stride::Stride;
 use cell::Cell;
 use cell::CellForm;
+use column_cells::Stride;
 ghost use mathlib.Core.Path.{_≡_};
 ghost use mathlib.Core.Bool.{Bool};
 ghost use Prim.Native.Nat.{_≤_};

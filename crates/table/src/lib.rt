@@ -1,10 +1,7 @@
 // Tables: a layout by value, cells read by place and in bulk, and written in bulk.
-mod column_judge;
-mod column_read;
 mod column_write;
 mod layout;
 mod read;
-mod stride;
 mod write;
 
 pub use crate::layout::Counted;

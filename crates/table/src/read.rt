@@ -1,10 +1,9 @@
 // Cells read by place, and in bulk: column after column, each to every `step`-th place of the outputs.
-use crate::column_read;
 use crate::layout;
 use crate::layout::Counted;
 use crate::layout::Table;
-use crate::stride::Stride;
 use cell::ValueRef;
+use column_cells::Stride;
 use common::Refusal;
 use order::Fits;
 use order::cell_fits;
@@ -175,7 +174,14 @@ fn read_columns(
             step: count,
             rows: some,
         };
-        column_read::read_column(layout::form_at(table, c), stream, from, kinds, numbers, run);
+        let _read = column_cells::read_column(
+            layout::form_at(table, c),
+            stream,
+            from,
+            kinds,
+            numbers,
+            run,
+        );
         c += 1;
     }
 }

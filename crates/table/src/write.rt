@@ -1,10 +1,9 @@
 // Cells written in bulk: all are judged first, column by column; then each column is written to its own stretch.
-use crate::column_judge;
 use crate::column_write;
 use crate::layout;
 use crate::layout::Counted;
 use crate::layout::Table;
-use crate::stride::Stride;
+use column_cells::Stride;
 use common::Refusal;
 use order::Fits;
 use order::bulk_fits;
@@ -77,7 +76,7 @@ fn judge_columns(table: Table, rows: usize, kinds: &[u8], numbers: &[i32]) -> Fi
             step: count,
             rows,
         };
-        let verdict = column_judge::judge_column(layout::form_at(table, c), kinds, numbers, run);
+        let verdict = column_cells::judge_column(layout::form_at(table, c), kinds, numbers, run);
         if let Fits::Refused(refusal) = verdict {
             return Fits::Refused(refusal);
         }

@@ -12,7 +12,7 @@ use Rattle.table.specs.declared.layout.Table.{Table}
 use Rattle.table.specs.Layout.{typesOf}
 use Rattle.table.specs.Rows.{cellAt, rowByRow}
 use Rattle.table.specs.Reading.{numRowsAnswer, readRowsOutcome}
-use Rattle.table.proofs.Strides.{next-le}
+use Rattle.column_cells.proofs.Strides.{next-le}
 use Rattle.table.proofs.Grid.{length-grid, grid-at}
 use Rattle.table_promises.specs.Promises.{ReadsAgree}
 

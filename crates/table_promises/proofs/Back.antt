@@ -36,8 +36,8 @@ use Rattle.common.proofs.Answers.{given-refusal, fine-first, given, each-fine}
 use Rattle.common.proofs.Bools.{clash}
 use Rattle.common.proofs.Outcomes.{refused-gives}
 use Rattle.common.proofs.Lists.{no-length}
-use Rattle.table.proofs.Strides.{next-le}
-use Rattle.table.proofs.Parts.{part-number}
+use Rattle.column_cells.proofs.Strides.{next-le}
+use Rattle.column_cells.proofs.Parts.{part-number}
 use Rattle.table.proofs.Plain.{all-given}
 use Rattle.table.proofs.Layouts.{types-count}
 use Rattle.table.proofs.Grid.{length-grid, grid-same}

@@ -26,7 +26,7 @@ use Rattle.widths.proofs.Judged.{columns-passed}
 use Rattle.widths.proofs.Rows.{Found, found, rows-hold}
 use Rattle.table.specs.Rows.{cellAt, rowByRow}
 use Rattle.table.specs.Writing.{Cells, cellBytes, columnBytes, tableBytes, writtenRows}
-use Rattle.table.proofs.Strides.{next-le}
+use Rattle.column_cells.proofs.Strides.{next-le}
 use Rattle.table.proofs.Layouts.{types-count}
 use Rattle.table.proofs.Grid.{length-grid, grid-at}
 use Rattle.table.proofs.Column.{column-within}

@@ -2,9 +2,10 @@
 use Rattle.common.proofs.Lists.{from-next}
 use Rattle.common.proofs.Answers.{fine-first}
 use Rattle.table.proofs.Plain.{plain-turn, plain-end}
-use Rattle.table.proofs.Strides.{next-le, next-is}
+use Rattle.column_cells.proofs.Strides.{next-le, next-is}
 use Rattle.table.specs.inner.Columns.{givenBytes, plain}
-use Rattle.table.specs.inner.Strides.{formWidth, cellNumber, formBytes, formStored}
+use Rattle.column_cells.specs.Strides.{formWidth, cellNumber}
+use Rattle.table.specs.inner.Strides.{formBytes, formStored}
 use Rattle.cell.proofs.Numbers.{handed-stored}
 use Rattle.cell.specs.Forms.{typeIn, longIn}
 use Rattle.cell.specs.Handed.{cellOf}

@@ -2,11 +2,15 @@
 use Rattle.table.proofs.Column.{form-cell}
 use Rattle.table.proofs.Grid.{Filled, filled-none, filled-turn, filled-done, rows-shift}
 use Rattle.table.proofs.Layouts.{column-width, column-start, inside, small}
-use Rattle.table.specs.inner.Strides.{formWidth, formCell}
+use Rattle.column_cells.specs.Strides.{formWidth, formCell}
 use Rattle.table.specs.inner.Columns.{rowsFrom}
 use Rattle.table.specs.Rows.{cellAt}
 use Rattle.table.specs.Layout.{typesOf}
 use Rattle.widths.specs.Widths.{rowSize, typeAt}
+use Rattle.column_cells.specs.declared.stride.Stride.{Stride}
+use Rattle.column_cells.specs.inner.Handed.{Held}
+use Rattle.column_cells.proofs.Columns.{read-held}
+use Rattle.common.specs.Answers.{Answer}
 use Rattle.cell.proofs.Cells.{form-width}
 use Rattle.cell.specs.Forms.{formFor}
 use Rattle.cell.specs.Cells.{width}
@@ -15,6 +19,7 @@ use lib.IntN.{ℤ, pos}
 use native.Mathlib.Omega.{arith}
 use native.Mathlib.Nat.{add-mul, add-zero, mul-le-mul-right}
 use Prim.Native.Nat.{ℕ, _+_, _-_, _*_, _≤_}
+use mathlib.Core.List.{List}
 use mathlib.Core.Path.{_≡_, ap, _∙_}
 use Rattle.table.proofs.read.read_columns.Statement.{statement}
 use Rattle.table.proofs.read.read_columns.Tie as tie
@@ -69,17 +74,18 @@ mul-from-3 c = let k = c .before .before in rw (width-is k) (omega (arith, withi
 add-from : tie.Need-add-from Inv-loop μ-loop
 add-from c = let k = c .before .before in rw (start-is k, width-is k) (omega (arith, within k))
 
-read-column-requires : tie.Need-read-column-requires Inv-loop μ-loop
-read-column-requires c κs =
+-- and the reader of a column is handed what it asks for
+held : (c : tie.After-read-column-arg2 Inv-loop μ-loop)
+    → let k = c .before .before .before .before .before in let a = at-start k .args in
+    Held (formFor (typeAt (typesOf (a .table)) (k .before .loop .c)) (a .table .«long_string_refs»)) (length (a .stream .now)) (rowsHere k * before k + a .band .first * wide k) (length (k .before .loop .kinds)) (length (k .before .loop .numbers)) (record { column = k .before .loop .c; step = a .table .count; rows = a .band .rows })
+held c =
     let k = c .before .before .before .before .before in
     let s = at-start k in
     let l = k .before .loop in
     let t = s .args .table in
     let f = formFor (typeAt (typesOf t) (l .c)) (t .«long_string_refs») in
     let all : rowsHere k * before k + s .args .band .first * wide k + s .args .band .rows * formWidth f ≤ length (s .args .stream .now) = rw (← form-width (t .«long_string_refs») (typeAt (typesOf t) (l .c))) (omega (arith, within k)) in
-    let some : s .args .band .rows ≤ 65536 = omega (arith, s .pre .0 .few, s .pre .1) in
-    rw (start-is k, width-is k, c .before .before .form-at .ensures)
-    (record { handed = record { few = some; narrow = s .pre .0 .narrow; kinds-are = l .inv .1 .sized; numbers-are = l .inv .2 .sized; below = k .loop-test .taken }; stream = all })
+    record { few = omega (arith, s .pre .0 .few, s .pre .1); narrow = s .pre .0 .narrow; kinds-are = omega (arith, l .inv .1 .sized); numbers-are = omega (arith, l .inv .2 .sized); below = k .loop-test .taken; stream = all }
 
 loop-again : tie.Need-loop-again Inv-loop μ-loop
 loop-again c =
@@ -94,10 +100,13 @@ loop-again c =
     let first = a .band .first in
     let start = rowsHere k * before k + first * wide k in
     let is : (r : ℕ) → formCell f s start r ≡ cellAt (typesOf t) long (rowsHere k) s (first + r) (l .c) = λ r. form-cell (typesOf t) long (rowsHere k) first s r (l .c) in
-    let both = rw (start-is k, width-is k, read .before .before .before .form-at .ensures) at (read .read-column .ensures) in (
+    let run : Stride = record { column = l .c; step = t .count; rows = a .band .rows } in
+    let out = rw (start-is k, width-is k, read .before .before .before .form-at .ensures) at (read .read-column .ensures) ∙ read-held f s start run (l .kinds) (l .numbers) (at-start k .pre .0 .small) (held (read .before)) in
+    let kinds = ap (λ (x : Answer (Unit {0}) × (List ℕ × List ℤ)). x .1 .0) out in
+    let numbers = ap (λ (x : Answer (Unit {0}) × (List ℕ × List ℤ)). x .1 .1) out in (
       omega arith,
-      rw (both .0) (filled-turn 0 (λ r j. cellAt (typesOf t) long (rowsHere k) s (first + r) j .0) (a .band .rows) (t .count) (l .c) (λ r. formCell f s start r .0) (l .kinds) (k .loop-test .taken) (λ r. ap (λ (x : ℕ × ℤ). x .0) (is r)) (l .inv .1)),
-      rw (both .1) (filled-turn (pos 0) (λ r j. cellAt (typesOf t) long (rowsHere k) s (first + r) j .1) (a .band .rows) (t .count) (l .c) (λ r. formCell f s start r .1) (l .numbers) (k .loop-test .taken) (λ r. ap (λ (x : ℕ × ℤ). x .1) (is r)) (l .inv .2)),
+      rw kinds (filled-turn 0 (λ r j. cellAt (typesOf t) long (rowsHere k) s (first + r) j .0) (a .band .rows) (t .count) (l .c) (λ r. formCell f s start r .0) (l .kinds) (k .loop-test .taken) (λ r. ap (λ (x : ℕ × ℤ). x .0) (is r)) (l .inv .1)),
+      rw numbers (filled-turn (pos 0) (λ r j. cellAt (typesOf t) long (rowsHere k) s (first + r) j .1) (a .band .rows) (t .count) (l .c) (λ r. formCell f s start r .1) (l .numbers) (k .loop-test .taken) (λ r. ap (λ (x : ℕ × ℤ). x .1) (is r)) (l .inv .2)),
     )
 
 same-length : tie.Need-same-length Inv-loop μ-loop
@@ -133,7 +142,7 @@ read-columns-spec =
     mul-from-3
     add-from
     (λ c κs. (c .before .before .loop-test .taken, at-start (c .before .before) .pre .0 .narrow))
-    read-column-requires
+    (λ c κs. tt)
     (λ c. omega arith)
     (λ c. omega arith)
     loop-again

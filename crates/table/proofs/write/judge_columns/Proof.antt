@@ -3,7 +3,8 @@ use Rattle.cell.specs.Forms.{formFor}
 use Rattle.table.proofs.Column.{column-judged, table-judged}
 use Rattle.table.proofs.Layouts.{types-count}
 use Rattle.common.proofs.Answers.{each-turn, each-stop, each-end}
-use Rattle.table.specs.inner.Strides.{cellNumber}
+use Rattle.column_cells.specs.Strides.{cellNumber}
+use Rattle.column_cells.proofs.Columns.{judge-handed}
 use Rattle.order.specs.Order.{fitsAs}
 use Rattle.table.specs.Writing.{Cells, columnBytes, tableBytes}
 use Rattle.widths.specs.Widths.{typeAt}
@@ -50,14 +51,10 @@ said c =
     let l = c .before .before .before .loop in
     let t = s .args .table in
     let f = formFor (typeAt (typesOf t) (l .c)) (t .«long_string_refs») in
+    let p = s .pre in
     column-judged (typesOf t) (t .«long_string_refs») (s .args .rows) (cellsOf s) (l .c)
     ∙ ap (λ (n : ℕ). refusalOf (each (cellNumber f (s .args .kinds .now) (s .args .numbers .now) (record { column = l .c; step = n; rows = s .args .rows })) (from 0 (s .args .rows)))) (count-is s)
-    ∙ sym (rw (c .before .form-at .ensures) at (c .judge-column .ensures))
-
-judge-column-requires : tie.Need-judge-column-requires Inv-loop μ-loop
-judge-column-requires c κs =
-    let p = c .before .before .before .before .pre in
-    record { few = p .1; narrow = p .0; kinds-are = p .2; numbers-are = p .3; below = c .before .loop-test .taken }
+    ∙ sym (rw (c .before .form-at .ensures) at (c .judge-column .ensures) ∙ judge-handed f (s .args .kinds .now) (s .args .numbers .now) (record { column = l .c; step = t .count; rows = s .args .rows }) (record { few = p .1; narrow = p .0; kinds-are = p .2; numbers-are = p .3; below = c .before .before .loop-test .taken }))
 
 loop-holds : tie.Need-loop-holds Inv-loop μ-loop
 loop-holds c = (omega arith, rw sub-zero)
@@ -89,7 +86,7 @@ judge-columns-spec =
     μ-loop
     loop-holds
     form-at-requires
-    judge-column-requires
+    (λ c κs. tt)
     (λ c. search needs)
     returns
     (λ c. search needs)

@@ -4,7 +4,8 @@ use Rattle.table.proofs.Layouts.{types-count}
 use Rattle.common.proofs.Lists.{from-next}
 use Rattle.common.proofs.Answers.{fine-first}
 use Rattle.table.proofs.Plain.{plain-turn, plain-end}
-use Rattle.table.specs.inner.Strides.{formWidth, cellNumber, formBytes}
+use Rattle.column_cells.specs.Strides.{formWidth, cellNumber}
+use Rattle.table.specs.inner.Strides.{formBytes}
 use Rattle.table.specs.inner.Columns.{givenBytes, plain}
 use Rattle.table.specs.Writing.{Cells, columnBytes}
 use Rattle.widths.specs.Widths.{rowSize, typeAt}

@@ -1,4 +1,4 @@
--- A column's cells: one row more, and the end. Assumes nothing.
+-- A column's cells: one row more, and the end.
 use mathlib.Core.Path.{_≡_}
 use mathlib.Core.List.{List, map}
 use Prim.Native.Nat.{ℕ, suc, _+_, _-_, _*_, _<_, _≤_}
@@ -7,7 +7,7 @@ use native.Mathlib.Numerals.{add-one}
 use native.Mathlib.Omega.{arith}
 use lib.ListN.{set}
 use Rattle.common.specs.Lists.{from}
-use Rattle.table.specs.inner.Strides.{strided}
+use Rattle.column_cells.specs.Strides.{strided}
 use Rattle.common.proofs.Lists.{from-next, from-done}
 
 -- the next multiple, within as many

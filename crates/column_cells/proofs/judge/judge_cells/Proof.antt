@@ -1,7 +1,7 @@
--- `column_judge::judge_cells` meets its contract: what the cells that are left say, is what all say. Assumes nothing.
-use Rattle.table.proofs.Strides.{next-le, next-is}
+-- `judge::judge_cells` meets its contract: what the cells that are left say, is what all say.
+use Rattle.column_cells.proofs.Strides.{next-le, next-is}
 use Rattle.common.proofs.Answers.{each-turn, each-stop, each-end}
-use Rattle.table.specs.inner.Strides.{cellNumber}
+use Rattle.column_cells.specs.Strides.{cellNumber}
 use Rattle.cell.proofs.Numbers.{handed-stored}
 use Rattle.cell.specs.Forms.{typeIn, longIn, storedAs}
 use Rattle.cell.specs.Handed.{cellOf}
@@ -16,8 +16,8 @@ use native.Mathlib.Nat.{sub-zero, zero-mul}
 use Prim.Native.Nat.{ℕ, _+_, _-_, _*_, _≤_, _<_, _^_}
 use mathlib.Core.Path.{_≡_, sym, ap, _∙_}
 use borrow.Author.Needs.{needs}
-use Rattle.table.proofs.column_judge.judge_cells.Statement.{statement}
-use Rattle.table.proofs.column_judge.judge_cells.Tie as tie
+use Rattle.column_cells.proofs.judge.judge_cells.Statement.{statement}
+use Rattle.column_cells.proofs.judge.judge_cells.Tie as tie
 
 abbrev Inv-loop : tie.InvT-loop
 Inv-loop form kinds numbers column step rows at₀ row₀ at row =

@@ -1,9 +1,9 @@
--- `column_read::read_cells` meets its contract: what is still to be stored, stored over what there is, stays the same in each turn. Assumes nothing.
-use Rattle.table.proofs.Parts.{cell-part}
-use Rattle.table.proofs.Strides.{next-le, next-is}
-use Rattle.table.proofs.Strides.{stride-turn, stride-done}
-use Rattle.table.specs.inner.Strides.{formWidth}
-use Rattle.table.specs.inner.Strides.{strided, formCell}
+-- `column_read::read_cells` meets its contract: what is still to be stored, stored over what there is, stays the same in each turn.
+use Rattle.column_cells.proofs.Parts.{cell-part}
+use Rattle.column_cells.proofs.Strides.{next-le, next-is}
+use Rattle.column_cells.proofs.Strides.{stride-turn, stride-done}
+use Rattle.column_cells.specs.Strides.{formWidth}
+use Rattle.column_cells.specs.Strides.{strided, formCell}
 use Rattle.cell.specs.Kinds.{cellAs}
 use Rattle.common.specs.Lists.{from}
 use mir.Facts.{toZ-ofZ}
@@ -11,13 +11,13 @@ use mir.Syntax.{w32}
 use lib.ListN.{length, length-set}
 use lib.IntN.{ℤ}
 use native.Mathlib.Omega.{arith}
-use native.Mathlib.Nat.{sub-zero, zero-mul}
+use native.Mathlib.Nat.{sub-zero, zero-mul, mul-le-mul-right}
 use Prim.Native.Nat.{ℕ, _+_, _-_, _*_, _≤_, _<_, _^_}
 use mathlib.Core.List.{map}
 use mathlib.Core.Path.{_≡_, refl, sym, ap, _∙_}
 use borrow.Author.Needs.{needs}
-use Rattle.table.proofs.column_read.read_cells.Statement.{statement}
-use Rattle.table.proofs.column_read.read_cells.Tie as tie
+use Rattle.column_cells.proofs.read.read_cells.Statement.{statement}
+use Rattle.column_cells.proofs.read.read_cells.Tie as tie
 
 abbrev Inv-loop : tie.InvT-loop
 Inv-loop form stream start kinds₀ numbers₀ width step rows cell₀ at₀ row₀ kinds numbers cell at row =
@@ -32,13 +32,13 @@ abbrev μ-loop : tie.MeasureT-loop
 
 -- in a turn there is a cell to read, and a place for it
 cell-in : (c : tie.In-loop Inv-loop μ-loop)
-    → (c .before .loop .cell < length (c .before .before .before .before .before .args .kinds .now)) × (c .before .loop .cell + c .before .before .before .before .before .args .run .step < 2 ^ 64) × (c .before .loop .at + c .before .before .width .result ≤ length (c .before .before .before .before .before .args .stream .now))
+    → (c .before .loop .cell < c .before .before .before .before .before .args .run .rows * c .before .before .before .before .before .args .run .step) × (c .before .loop .cell + c .before .before .before .before .before .args .run .step < 2 ^ 64) × (c .before .loop .at + c .before .before .width .result ≤ length (c .before .before .before .before .before .args .stream .now))
 cell-in c =
     let l = c .before .loop in
     let p = c .before .before .before .before .before .pre in
     let n = next-le (l .row) (c .before .before .before .before .before .args .run .rows) (c .before .before .before .before .before .args .run .step) (c .loop-test .taken) in
-    let k = p .handed .kinds-are in
-    let b = p .handed .below in
+    let k = p .kinds-are in
+    let b = p .below in
     let all : c .before .before .before .before .before .args .start + c .before .before .before .before .before .args .run .rows * c .before .before .width .result ≤ length (c .before .before .before .before .before .args .stream .now) = rw (c .before .before .width .ensures) (p .stream) in
     (omega (arith, n), omega (arith, n, c .before .before .before .before .before .good .1 .1 .1 .0), omega (arith, next-le (l .row) (c .before .before .before .before .before .args .run .rows) (c .before .before .width .result) (c .loop-test .taken)))
 
@@ -69,17 +69,18 @@ part-read-value-end : tie.Need-part-read-value-end Inv-loop μ-loop
 part-read-value-end c = omega (arith, cell-in c)
 
 slice-write-kinds : tie.Need-slice-write-kinds Inv-loop μ-loop
-slice-write-kinds c = omega (arith, cell-in (c .before .before .before))
+slice-write-kinds c = let k = c .before .before .before in omega (arith, cell-in k .0, k .before .before .before .before .before .pre .kinds-are)
 
 mul-t17 : tie.Need-mul-t17 Inv-loop μ-loop
 mul-t17 c =
-    let h = cell-in (c .before .before .before .before) .0 in
-    let e = c .before .before .before .before .before .before .before .before .before .pre .handed .numbers-are in
-    let k = c .before .before .before .before .before .before .before .before .before .pre .handed .kinds-are in
-    search needs
+    let k = c .before .before .before .before in
+    let h = cell-in k .0 in
+    let e = k .before .before .before .before .before .pre .few in
+    let n = k .before .before .before .before .before .pre .narrow in
+    omega (arith, mul-le-mul-right {m = k .before .before .before .before .before .args .run .rows} {n = 65536} (k .before .before .before .before .before .args .run .step) e)
 
 slice-set-from-numbers : tie.Need-slice-set-from-numbers Inv-loop μ-loop
-slice-set-from-numbers c = omega (arith, cell-in (c .before .before .before .before), c .before .before .before .before .before .before .before .before .before .pre .handed .numbers-are, c .before .before .before .before .before .before .before .before .before .pre .handed .kinds-are)
+slice-set-from-numbers c = let k = c .before .before .before .before in omega (arith, cell-in k .0, k .before .before .before .before .before .pre .numbers-are)
 
 add-cell : tie.Need-add-cell Inv-loop μ-loop
 add-cell c = record { fits = cell-in (c .before .before .before .before) .1 }

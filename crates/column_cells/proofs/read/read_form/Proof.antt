@@ -1,7 +1,7 @@
--- `column_read::read_column` meets its contract: in each arm the form is known. Assumes nothing.
+-- `read::read_form` meets its contract: in each arm the form is known.
 use borrow.Author.Needs.{needs}
-use Rattle.table.proofs.column_read.read_column.Statement.{statement}
-use Rattle.table.proofs.column_read.read_column.Tie as tie
+use Rattle.column_cells.proofs.read.read_form.Statement.{statement}
+use Rattle.column_cells.proofs.read.read_form.Tie as tie
 
 read-cells-requires : tie.Need-read-cells-requires
 read-cells-requires c κs = rw (c .before .before .enum-told .given .1) at (c .before .before .before .before .before .before .pre)
@@ -18,8 +18,8 @@ read-cells-requires-4 c κs = rw (c .before .before .enum-told4 .given .1) at (c
 read-cells-requires-5 : tie.Need-read-cells-requires-5
 read-cells-requires-5 c κs = rw (c .before .before .enum-told5 .given .1) at (c .before .before .before .before .before .before .pre)
 
-pub read-column-spec : {M : Type 1} → statement M
-read-column-spec =
+pub read-form-spec : {M : Type 1} → statement M
+read-form-spec =
     tie.close
     (tie.spec
     (λ c. search needs)

@@ -1,18 +1,40 @@
 // One column's cells, judged row by row.
+use crate::stride;
 use crate::stride::Stride;
 use cell::Cell;
 use cell::CellForm;
 use cell::Stored;
+use common::Refusal;
 use order::Fits;
 ghost use mathlib.Core.Path.{_≡_};
 ghost use lib.ListN.{length};
 ghost use Rattle.common.specs.Lists.{from};
 ghost use Rattle.common.specs.Answers.{refusalOf, each};
 ghost use Rattle.order.specs.Order.{fitsAs};
-ghost use Rattle.table.specs.inner.Strides.{Handed, cellNumber};
+ghost use Rattle.column_cells.specs.Strides.{cellNumber};
+ghost use Rattle.column_cells.specs.Columns.{judgeColumnAnswer};
+ghost use Rattle.column_cells.specs.inner.Handed.{Handed};
 
-// The first bad cell of a column. Settles the form once for all of them: each call is compiled for its form alone.
-pub(crate) fn judge_column(form: CellForm, kinds: &[u8], numbers: &[i32], run: Stride) -> Fits
+// The first bad cell of a column.
+pub fn judge_column(form: CellForm, kinds: &[u8], numbers: &[i32], run: Stride) -> Fits
+    ensures { λ r. ⌜ fitsAs r ≡ judgeColumnAnswer form (now (kinds .entry)) (now (numbers .entry)) run ⌝ }
+{
+    let placed = stride::fits(run);
+    if let Fits::Refused(refusal) = placed {
+        return Fits::Refused(refusal);
+    }
+    let cells = run.rows * run.step;
+    if kinds.len() != cells {
+        return Fits::Refused(Refusal::CellCount);
+    }
+    if numbers.len() != cells {
+        return Fits::Refused(Refusal::CellCount);
+    }
+    judge_form(form, kinds, numbers, run)
+}
+
+// Settles the form once for all of them: each call is compiled for its form alone.
+fn judge_form(form: CellForm, kinds: &[u8], numbers: &[i32], run: Stride) -> Fits
     requires { ⌜ Handed (length (now kinds)) (length (now numbers)) run ⌝ }
     ensures { λ r. ⌜ fitsAs r ≡ refusalOf (each (cellNumber form (now (kinds .entry)) (now (numbers .entry)) run) (from 0 (run .rows))) ⌝ }
 {

@@ -1,10 +1,10 @@
--- `column_judge::judge_column` meets its contract: in each arm the form is known. Assumes nothing.
+-- `judge::judge_form` meets its contract: in each arm the form is known.
 use borrow.Author.Needs.{needs}
-use Rattle.table.proofs.column_judge.judge_column.Statement.{statement}
-use Rattle.table.proofs.column_judge.judge_column.Tie as tie
+use Rattle.column_cells.proofs.judge.judge_form.Statement.{statement}
+use Rattle.column_cells.proofs.judge.judge_form.Tie as tie
 
-pub judge-column-spec : {M : Type 1} → statement M
-judge-column-spec =
+pub judge-form-spec : {M : Type 1} → statement M
+judge-form-spec =
     tie.close
     (tie.spec
     (λ c. search needs)

@@ -1,4 +1,4 @@
--- A cell read from its own bytes. Assumes nothing.
+-- A cell read from its own bytes.
 use mathlib.Core.Path.{_≡_, refl, _∙_, ap}
 use mathlib.Core.List.{List}
 use Prim.Native.Nat.{ℕ, zero, suc, _+_, _≤_}
@@ -8,7 +8,7 @@ use lib.ListN.{take, drop}
 use lib.Seq.{getD-take, getD-drop}
 use Rattle.little_endian.specs.Numbers.{numberAt as numberIn}
 use Rattle.cell.specs.declared.form.CellForm.{CellForm}
-use Rattle.table.specs.inner.Strides.{formWidth}
+use Rattle.column_cells.specs.Strides.{formWidth}
 
 pub part-number : (w k : ℕ) (s : List ℕ) (at i : ℕ) → i + w ≤ k → numberIn w (take k (drop at s)) i ≡ numberIn w s (at + i)
 part-number zero k s at i h = refl

@@ -1,0 +1,3 @@
+pub mod Strides
+pub mod Parts
+pub mod Columns

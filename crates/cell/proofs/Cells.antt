@@ -1,4 +1,4 @@
--- Forms and the types they stand for; cells that can be stored. Assumes nothing.
+-- Forms and the types they stand for; cells that can be stored.
 use mathlib.Core.Path.{_≡_, refl}
 use mathlib.Core.Bool.{Bool, true, false, _||_}
 use Prim.Native.Nat.{ℕ, _<_, _≤_}

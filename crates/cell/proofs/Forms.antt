@@ -1,4 +1,4 @@
--- A cell by its cases, and by its kind and number. Assumes nothing.
+-- A cell by its cases, and by its kind and number.
 use mathlib.Core.Path.{_≡_, refl}
 use mathlib.Core.Bool.{Bool}
 use Prim.Native.Nat.{ℕ}

@@ -1,5 +1,5 @@
 -- Signed sums by way of the unsigned: z + h is the natural number `biased h z`, and u - h is `unbiased h u`.
--- Every law is over the half h. Assumes nothing.
+-- Every law is over the half h.
 use mathlib.Core.Path.{_≡_, refl, ap, _∙_}
 use Prim.Native.Nat.{ℕ, zero, suc, _+_, _-_, _<_, _≤_, _^_}
 use native.Mathlib.Omega.{arith}

@@ -1,4 +1,4 @@
--- The number of a cell that can be stored, and of one that was handed over. Assumes nothing.
+-- The number of a cell that can be stored, and of one that was handed over.
 use mathlib.Core.Path.{_≡_, refl, sym, _∙_, ap}
 use mathlib.Core.Bool.{Bool, true, false, not, _&&_}
 use Prim.Native.Nat.{ℕ, _<_, _≤_}

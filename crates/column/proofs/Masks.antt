@@ -1,4 +1,4 @@
--- What masks do to a number, as division and remainder, which `omega` reads. Over the bit k. Assumes nothing.
+-- What masks do to a number, as division and remainder, which `omega` reads. Over the bit k.
 use mathlib.Core.Path.{_≡_, refl, ap, _∙_, sym}
 use Prim.Native.Nat.{ℕ, _+_, _-_, _*_, _/_, _%_, _<_, _≤_, _^_}
 use native.Mathlib.Nat.{pow-suc, zero-mul, mod-lt, add-zero}

@@ -1,4 +1,4 @@
--- What a pool's calls answer, seen from a value. Assumes nothing.
+-- What a pool's calls answer, seen from a value.
 use mathlib.Core.Path.{_≡_, refl, sym, _∙_, ap}
 use mathlib.Core.Bool.{Bool, true, false, not, true≢false}
 use mathlib.Core.List.{List, []}

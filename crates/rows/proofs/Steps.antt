@@ -1,4 +1,4 @@
--- A step of the reader, and the bulk read. Assumes nothing.
+-- A step of the reader, and the bulk read.
 use mathlib.Core.Path.{_≡_, refl, sym, _∙_, ap}
 use mathlib.Core.Bool.{Bool, true, false, _&&_}
 use mathlib.Core.List.{List, [], _∷_}

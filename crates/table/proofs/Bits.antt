@@ -1,4 +1,4 @@
--- A layout from bitfields: a column at its place, and the columns made so far. Assumes nothing.
+-- A layout from bitfields: a column at its place, and the columns made so far.
 use mathlib.Core.Path.{_≡_, refl, sym, ap}
 use mathlib.Core.Bool.{Bool, true, false, _||_}
 use mathlib.Core.List.{List, _∷_}

@@ -1,4 +1,4 @@
--- One column's cells: by its form, and by its type; and all columns. Assumes nothing.
+-- One column's cells: by its form, and by its type; and all columns.
 use mathlib.Core.Path.{_≡_, sym, _∙_, ap}
 use mathlib.Core.Bool.{Bool}
 use mathlib.Core.List.{List, [], _∷_}

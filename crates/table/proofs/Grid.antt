@@ -1,4 +1,4 @@
--- Stores at every step-th place, and a table that is filled column by column. Assumes nothing.
+-- Stores at every step-th place, and a table that is filled column by column.
 use mathlib.Core.Path.{_≡_, refl, sym, _∙_, ap}
 use mathlib.Core.Logic.{⊎-elim}
 use mathlib.Core.List.{List, [], _∷_, _++_, map, append-assoc}

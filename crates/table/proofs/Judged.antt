@@ -1,4 +1,4 @@
--- A cell that was judged and can be stored: its number, wherever it stands. Assumes nothing.
+-- A cell that was judged and can be stored: its number, wherever it stands.
 use mathlib.Core.Path.{_≡_, refl, sym, _∙_, ap}
 use mathlib.Core.Bool.{Bool, true, false, not, _&&_}
 use mathlib.Core.List.{[], _∷_}

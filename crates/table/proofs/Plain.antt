@@ -1,4 +1,4 @@
--- Bytes that are given one after the other. Assumes nothing.
+-- Bytes that are given one after the other.
 use mathlib.Core.Path.{_≡_, refl, sym}
 use mathlib.Core.List.{List, [], _∷_, _++_, map}
 use Prim.Native.Nat.{ℕ, zero, suc, _+_, _-_, _*_, _<_, _≤_}

@@ -1,4 +1,4 @@
--- A bulk read agrees with a read by place. Assumes nothing.
+-- A bulk read agrees with a read by place.
 use mathlib.Core.Path.{_≡_, _∙_}
 use mathlib.Core.List.{List}
 use Prim.Native.Nat.{ℕ, _+_, _*_, _<_, _≤_}

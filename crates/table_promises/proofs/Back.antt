@@ -1,4 +1,4 @@
--- What was written reads back. Assumes nothing.
+-- What was written reads back.
 use mathlib.Core.Path.{_≡_, refl, sym, _∙_, ap}
 use mathlib.Core.Bool.{Bool, true, false}
 use mathlib.Core.List.{List, [], _∷_, _++_, append-nil}

@@ -1,4 +1,4 @@
--- A list cut into pieces one after the other, and put together again. Assumes nothing.
+-- A list cut into pieces one after the other, and put together again.
 use mathlib.Core.Path.{_≡_, sym, _∙_, ap}
 use mathlib.Core.Bool.{Bool}
 use mathlib.Core.List.{List, _++_, map, append-assoc}

@@ -1,4 +1,4 @@
--- What was read writes back. Assumes nothing.
+-- What was read writes back.
 use mathlib.Core.Path.{_≡_, sym, _∙_, ap}
 use mathlib.Core.Bool.{Bool, true}
 use mathlib.Core.List.{List}

@@ -5,12 +5,5 @@ use Rattle.pool_values.proofs.shown_of.Tie as tie
 pub shown-of-spec : {M : Type 1} → statement M
 shown-of-spec =
     tie.close
-    (tie.spec
-    (λ c. search needs)
-    (λ c. search needs)
-    (λ c. search needs)
-    (λ c. search needs)
-    (λ c. search needs)
-    (λ c. rw (c .before .value .given .1) (search needs))
-    (λ c. search needs)
-    (λ c. search needs))
+    (tie.spec (λ c. search needs) (λ c. search needs) (λ c. search needs) (λ c. search needs) (λ c. search needs)
+    (λ c. rw (c .before .value .given .1) (search needs)) (λ c. search needs) (λ c. search needs))

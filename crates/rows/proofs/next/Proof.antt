@@ -1,7 +1,6 @@
--- `rows::next` meets its contract: a walk of its MIR, by hand. The borrow is opened, `next_at` is called on the slice and the number that the struct holds,
+-- A walk of its MIR, by hand. The borrow is opened, `next_at` is called on the slice and the number that the struct holds,
 -- the number is replaced by the step's, and the borrow is closed at the struct with the new number. All that the proof knows of `next_at` is that it meets its contract.
 -- What the struct owns is had twice: of one copy what stream owns goes to the callee, beside the lifetime's token, which comes back.
--- Assumes nothing.
 use mathlib.Core.Path.{_≡_, refl, ap, subst}
 use Prim.Native.Nat.{ℕ, _<_, _^_}
 use mathlib.Core.List.{List, [], _∷_}

@@ -1,4 +1,3 @@
--- `rows::next_at` meets its contract.
 use Rattle.rows.proofs.Steps.{positive, read-some, read-none}
 use Rattle.rows.specs.Next.{another, nextOutcome}
 use Rattle.cell.specs.Kinds.{cellAs}
@@ -33,15 +32,5 @@ returns-3 c = sym (some c .0)
 pub next-at-spec : {M : Type 1} → statement M
 next-at-spec =
     tie.close
-    (tie.spec
-    (λ c κs. search needs)
-    (λ c. search needs)
-    (λ c. search needs)
-    (λ c. search needs)
-    (λ c κs. search needs)
-    (λ c. search needs)
-    (λ c κs. search needs)
-    (λ c. search needs)
-    add-t13
-    returns-2
-    returns-3)
+    (tie.spec (λ c κs. search needs) (λ c. search needs) (λ c. search needs) (λ c. search needs) (λ c κs. search needs) (λ c. search needs)
+    (λ c κs. search needs) (λ c. search needs) add-t13 returns-2 returns-3)

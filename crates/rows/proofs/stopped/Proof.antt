@@ -1,4 +1,3 @@
--- `rows::stopped` meets its contract.
 use borrow.Author.Tests.{eq-eqb, ne-eqb}
 use mathlib.Core.Path.{_≡_}
 use borrow.Author.Needs.{needs}

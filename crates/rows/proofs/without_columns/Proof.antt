@@ -1,4 +1,3 @@
--- `rows::without_columns` meets its contract.
 use Rattle.rows.proofs.Steps.{step-end, step-refused}
 use native.Mathlib.Omega.{arith}
 use native.Mathlib.Nat.{mul-zero}

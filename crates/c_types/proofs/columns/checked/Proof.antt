@@ -12,9 +12,4 @@ returns-2 c = simp (c .none .ensures, sym (c .before .before .is-unknown .ensure
 pub checked-spec : {M : Type 1} → statement M
 checked-spec =
     tie.close
-    (tie.spec
-    (λ c κs. search needs)
-    (λ c κs. search needs)
-    returns
-    (λ c κs. search needs)
-    returns-2)
+    (tie.spec (λ c κs. search needs) (λ c κs. search needs) returns (λ c κs. search needs) returns-2)

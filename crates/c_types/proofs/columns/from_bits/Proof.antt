@@ -9,10 +9,5 @@ returns c = simp (c .none .ensures, c .before .before .answer .given .1, back (c
 pub from-bits-spec : {M : Type 1} → statement M
 from-bits-spec =
     tie.close
-    (tie.spec
-    (λ c. search needs)
-    (λ c κs. search needs)
-    (λ c. search needs)
-    (λ c κs. search needs)
-    returns
+    (tie.spec (λ c. search needs) (λ c κs. search needs) (λ c. search needs) (λ c κs. search needs) returns
     (λ c. simp (c .told-of .ensures, c .before .before .answer2 .given .1)))

@@ -10,13 +10,5 @@ returns c = simp (c .before .before .none .ensures, c .before .kind .ensures, ba
 pub from-cell-spec : {M : Type 1} → statement M
 from-cell-spec =
     tie.close
-    (tie.spec
-    (λ c. search needs)
-    (λ c κs. search needs)
-    (λ c κs. search needs)
-    (λ c κs. search needs)
-    (λ c. search needs)
-    (λ c κs. search needs)
-    (λ c κs. search needs)
-    returns
-    (λ c. simp (c .no-value .ensures, c .before .told-in .ensures, c .before .before .before .answer2 .given .1)))
+    (tie.spec (λ c. search needs) (λ c κs. search needs) (λ c κs. search needs) (λ c κs. search needs) (λ c. search needs) (λ c κs. search needs)
+    (λ c κs. search needs) returns (λ c. simp (c .no-value .ensures, c .before .told-in .ensures, c .before .before .before .answer2 .given .1)))

@@ -11,11 +11,4 @@ returns-2 c = simp (c .table-out .ensures, c .before .told-in .ensures, c .befor
 pub from-new-spec : {M : Type 1} → statement M
 from-new-spec =
     tie.close
-    (tie.spec
-    (λ c. search needs)
-    (λ c κs. search needs)
-    (λ c. search needs)
-    (λ c κs. search needs)
-    (λ c κs. search needs)
-    returns
-    returns-2)
+    (tie.spec (λ c. search needs) (λ c κs. search needs) (λ c. search needs) (λ c κs. search needs) (λ c κs. search needs) returns returns-2)

@@ -10,17 +10,7 @@ returns c = simp (c .before .before .none .ensures, c .before .kind .ensures, ba
 pub from-step-spec : {M : Type 1} → statement M
 from-step-spec =
     tie.close
-    (tie.spec
-    (λ c. search needs)
-    (λ c κs. search needs)
-    (λ c κs. search needs)
-    (λ c κs. search needs)
-    (λ c. search needs)
-    (λ c κs. search needs)
-    (λ c κs. search needs)
-    (λ c. search needs)
-    (λ c κs. search needs)
-    (λ c κs. search needs)
-    returns
+    (tie.spec (λ c. search needs) (λ c κs. search needs) (λ c κs. search needs) (λ c κs. search needs) (λ c. search needs) (λ c κs. search needs)
+    (λ c κs. search needs) (λ c. search needs) (λ c κs. search needs) (λ c κs. search needs) returns
     (λ c. simp (c .no-cell .ensures, c .before .none2 .ensures, c .before .before .enum-told .given .1))
     (λ c. simp (c .no-cell2 .ensures, c .before .told-in .ensures, c .before .before .before .cell2 .given .1)))

@@ -20,8 +20,4 @@ returns-2 c = sym (type-in _ (c .before .before .args .t1 .columns) (c .before .
 pub type-at-spec : {M : Type 1} → statement M
 type-at-spec =
     tie.close
-    (tie.spec
-    returns
-    (λ c. search needs)
-    (λ c. search needs)
-    returns-2)
+    (tie.spec returns (λ c. search needs) (λ c. search needs) returns-2)

@@ -9,13 +9,6 @@ returns-2 c = simp (c .before .before .before .none .ensures, c .before .value .
 pub shown-value-spec : {M : Type 1} → statement M
 shown-value-spec =
     tie.close
-    (tie.spec
-    (λ c κs. search needs)
-    (λ c. search needs)
-    (λ c. search needs)
-    (λ c. search needs)
-    (λ c. search needs)
-    (λ c. simp (c .before .before .none .ensures, c .enum-told .given .1))
-    returns-2
-    (λ c. simp (c .before .before .none .ensures, c .enum-told2 .given .1))
-    (λ c. simp (c .before .before .none .ensures, c .enum-told3 .given .1)))
+    (tie.spec (λ c κs. search needs) (λ c. search needs) (λ c. search needs) (λ c. search needs) (λ c. search needs)
+    (λ c. simp (c .before .before .none .ensures, c .enum-told .given .1)) returns-2
+    (λ c. simp (c .before .before .none .ensures, c .enum-told2 .given .1)) (λ c. simp (c .before .before .none .ensures, c .enum-told3 .given .1)))

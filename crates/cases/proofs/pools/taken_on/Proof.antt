@@ -8,12 +8,5 @@ returns c = rw (c .before .before .before .before .before .before .before .befor
 pub taken-on-spec : {M : Type 1} → statement M
 taken-on-spec =
     tie.close
-    (tie.spec
-    (λ c. search needs)
-    (λ c. search needs)
-    (λ c. search needs)
-    (λ c. search needs)
-    (λ c κs. search needs)
-    (λ c. search needs)
-    returns
+    (tie.spec (λ c. search needs) (λ c. search needs) (λ c. search needs) (λ c. search needs) (λ c κs. search needs) (λ c. search needs) returns
     (λ c. rw (c .before .before3 .given .1)))

@@ -1,4 +1,3 @@
--- `form::binary_stored` meets its contract. Assumes nothing.
 use Rattle.cell.proofs.Cases.{not-binary}
 use Rattle.common.specs.Answers.{cell}
 use borrow.Author.Needs.{needs}

@@ -1,4 +1,3 @@
--- `form::binary_value` meets its contract. Assumes nothing.
 use borrow.Author.Tests.{eq-eqb, ne-eqb}
 use native.Mathlib.Omega.{arith}
 use Rattle.cell.proofs.form.binary_value.Statement.{statement}

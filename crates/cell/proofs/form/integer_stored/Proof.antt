@@ -1,4 +1,3 @@
--- `form::integer_stored` meets its contract. Assumes nothing.
 use Rattle.cell.proofs.Halves.{bias-is, too-low, too-high, in-range, integer-refused, integer-given}
 use Rattle.cell.proofs.Cases.{not-integer}
 use Rattle.common.specs.Answers.{cell, gives}
@@ -50,16 +49,5 @@ returns-5 c =
 pub integer-stored-spec : {M : Type 1} → statement M
 integer-stored-spec =
     tie.close
-    (tie.spec
-    (λ c. search needs)
-    (λ c. search needs)
-    (λ c. search needs)
-    returns-2
-    (λ c. search needs)
-    (λ c κs. search needs)
-    returns-3
-    (λ c. search needs)
-    returns-4
-    (λ c. omega arith)
-    cast-t13
-    returns-5)
+    (tie.spec (λ c. search needs) (λ c. search needs) (λ c. search needs) returns-2 (λ c. search needs) (λ c κs. search needs) returns-3
+    (λ c. search needs) returns-4 (λ c. omega arith) cast-t13 returns-5)

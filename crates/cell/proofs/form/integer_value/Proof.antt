@@ -1,4 +1,3 @@
--- `form::integer_value` meets its contract. Assumes nothing.
 use Rattle.cell.proofs.Halves.{unbiased-fits, sub-is}
 use Rattle.cell.specs.inner.Signed.{unbiased}
 use lib.IntN.{ℤ, pos, _-ℤ_}

@@ -1,7 +1,6 @@
 use Rattle.cell.proofs.Cells.{good, good-bits, reference-refused, reference-any, reference-long, reference-short}
 use mir.Facts.{toZ-ofZ}
 use mir.Syntax.{w32}
--- `form::reference_stored` meets its contract. Assumes nothing.
 use Rattle.cell.proofs.Cases.{not-reference}
 use Rattle.common.specs.Answers.{cell}
 use borrow.Author.Needs.{needs}
@@ -53,16 +52,5 @@ returns-6 c =
 pub reference-stored-spec : {M : Type 1} → statement M
 reference-stored-spec =
     tie.close
-    (tie.spec
-    (λ c. search needs)
-    (λ c. search needs)
-    (λ c. search needs)
-    returns-2
-    (λ c κs. search needs)
-    (λ c. search needs)
-    (λ c. search needs)
-    returns-3
-    cast-number
-    returns-4
-    returns-5
-    returns-6)
+    (tie.spec (λ c. search needs) (λ c. search needs) (λ c. search needs) returns-2 (λ c κs. search needs) (λ c. search needs) (λ c. search needs)
+    returns-3 cast-number returns-4 returns-5 returns-6)

@@ -1,4 +1,3 @@
--- `form::reference_value` meets its contract. Assumes nothing.
 use borrow.Author.Tests.{eq-eqb, ne-eqb}
 use mir.Facts.{toZ-pos}
 use mir.Syntax.{w32}

@@ -1,4 +1,4 @@
--- `form::value_of` meets its contract: in each arm the form is known. Assumes nothing.
+-- In each arm the form is known.
 use native.Mathlib.Omega.{arith}
 use lib.Dec.{lit≤}
 use borrow.Author.Needs.{needs}
@@ -20,19 +20,8 @@ reference-value-requires-2 c κs = rw (c .enum-told4 .given .1) at (c .before .b
 pub value-of-spec : {M : Type 1} → statement M
 value-of-spec =
     tie.close
-    (tie.spec
-    (λ c. search needs)
-    integer-value-requires
-    (λ c. search needs)
-    integer-value-requires-2
-    (λ c. search needs)
-    reference-value-requires
-    (λ c. search needs)
-    reference-value-requires-2
-    (λ c. search needs)
-    (λ c κs. search needs)
-    (λ c. rw (c .before .enum-told .given .1) (c .integer-value .ensures))
-    (λ c. rw (c .before .enum-told2 .given .1) (c .integer-value2 .ensures))
+    (tie.spec (λ c. search needs) integer-value-requires (λ c. search needs) integer-value-requires-2 (λ c. search needs) reference-value-requires
+    (λ c. search needs) reference-value-requires-2 (λ c. search needs) (λ c κs. search needs)
+    (λ c. rw (c .before .enum-told .given .1) (c .integer-value .ensures)) (λ c. rw (c .before .enum-told2 .given .1) (c .integer-value2 .ensures))
     (λ c. rw (c .before .enum-told3 .given .1) (c .reference-value .ensures))
-    (λ c. rw (c .before .enum-told4 .given .1) (c .reference-value2 .ensures))
-    (λ c. rw (c .before .enum-told5 .given .1) (c .binary-value .ensures)))
+    (λ c. rw (c .before .enum-told4 .given .1) (c .reference-value2 .ensures)) (λ c. rw (c .before .enum-told5 .given .1) (c .binary-value .ensures)))

@@ -1,4 +1,4 @@
--- `signed::bias` meets its contract, by the laws of the sum `n as i64 + h`. Assumes nothing.
+-- By the laws of the sum `n as i64 + h`.
 use Rattle.cell.proofs.Halves.{widens, sum-fits, sum-is, biased-lt}
 use lib.Dec.{lit≤}
 use lib.IntN.{natAbs}

@@ -1,4 +1,4 @@
--- `signed::difference` meets its contract, by the laws of the difference. Assumes nothing.
+-- By the laws of the difference.
 use Rattle.cell.proofs.Halves.{sub-fits, sub-back, unbiased-fits}
 use Rattle.cell.specs.inner.Signed.{unbiased}
 use mir.Facts.{toZ-ofZ}

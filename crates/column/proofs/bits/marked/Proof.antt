@@ -1,4 +1,3 @@
--- `bits::marked` meets its contract. Assumes nothing.
 use borrow.Author.Needs.{needs}
 use Rattle.column.proofs.bits.marked.Statement.{statement}
 use Rattle.column.proofs.bits.marked.Tie as tie

@@ -1,4 +1,3 @@
--- `bits::too_long` meets its contract. Assumes nothing.
 use Rattle.column.proofs.Types.{no-maximum}
 use borrow.Author.Needs.{needs}
 use Rattle.column.proofs.bits.too_long.Statement.{statement}

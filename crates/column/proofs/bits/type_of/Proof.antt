@@ -1,4 +1,4 @@
--- `bits::type_of` meets its contract: the masks are the tests on the bits.
+-- The masks are the tests on the bits.
 use Rattle.column.proofs.Unnamed.{bits-are}
 use Rattle.column.proofs.Masks.{without-mask, has-yes, has-no, low-byte, low-byte-is}
 use Rattle.column.specs.Bits.{without}

@@ -1,4 +1,4 @@
--- `check::allows` meets its contract: in each arm the value's case says its kind. Assumes nothing.
+-- In each arm the value's case says its kind.
 use mir.Facts.{toZ-ofZ}
 use mir.Syntax.{w32}
 use mathlib.Core.Path.{sym, _∙_}
@@ -22,17 +22,6 @@ returns-3 c =
 pub allows-spec : {M : Type 1} → statement M
 allows-spec =
     tie.close
-    (tie.spec
-    (λ c. search needs)
-    (λ c. search needs)
-    (λ c κs. search needs)
-    (λ c κs. search needs)
-    returns
-    (λ c. search needs)
-    (λ c κs. search needs)
-    (λ c. search needs)
-    (λ c κs. search needs)
-    returns-2
-    returns-3
-    (λ c. rw (c .before .enum-told2 .given .1) (c .text-fits .ensures))
+    (tie.spec (λ c. search needs) (λ c. search needs) (λ c κs. search needs) (λ c κs. search needs) returns (λ c. search needs) (λ c κs. search needs)
+    (λ c. search needs) (λ c κs. search needs) returns-2 returns-3 (λ c. rw (c .before .enum-told2 .given .1) (c .text-fits .ensures))
     (λ c. rw (c .before .enum-told3 .given .1) (c .is-binary .ensures)))

@@ -1,4 +1,4 @@
--- `check::in_range` meets its contract: a signed comparison is that of the numbers. Assumes nothing.
+-- A signed comparison is that of the numbers.
 use mir.Facts.{toZ-ofZ}
 use mir.Syntax.{w32}
 use borrow.Author.Needs.{needs}

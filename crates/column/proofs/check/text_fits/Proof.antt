@@ -1,4 +1,3 @@
--- `check::text_fits` meets its contract. Assumes nothing.
 use Rattle.column.proofs.Types.{no-maximum}
 use borrow.Author.Tests.{ne-eqb}
 use borrow.Author.Needs.{needs}

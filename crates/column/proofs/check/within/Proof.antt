@@ -1,4 +1,3 @@
--- `check::within` meets its contract. Assumes nothing.
 use mir.Facts.{toZ-ofZ}
 use mir.Syntax.{w32}
 use Rattle.column.proofs.check.within.Statement.{statement}

@@ -1,4 +1,4 @@
--- `judge::judge_cells` meets its contract: what the cells that are left say, is what all say.
+-- What the cells that are left say, is what all say.
 use Rattle.column_cells.proofs.Strides.{next-le, next-is}
 use Rattle.common.proofs.Answers.{each-turn, each-stop, each-end}
 use Rattle.column_cells.specs.Strides.{cellNumber}
@@ -96,20 +96,5 @@ returns-2 c =
 pub judge-cells-spec : {M : Type 1} → statement M
 judge-cells-spec =
     tie.close
-    (tie.spec
-    Inv-loop
-    μ-loop
-    loop-holds
-    shared-slice-read-kind
-    mul-number
-    shared-slice-copy-out-number
-    (λ c κs. tt)
-    (λ c κs. tt)
-    (λ c. search needs)
-    returns
-    (λ c. search needs)
-    add-at
-    (λ c. search needs)
-    (λ c. search needs)
-    loop-again
-    returns-2)
+    (tie.spec Inv-loop μ-loop loop-holds shared-slice-read-kind mul-number shared-slice-copy-out-number (λ c κs. tt) (λ c κs. tt) (λ c. search needs)
+    returns (λ c. search needs) add-at (λ c. search needs) (λ c. search needs) loop-again returns-2)

@@ -1,4 +1,3 @@
--- `judge::judge_column` meets its contract.
 use Rattle.column_cells.proofs.Columns.{stride-inside, judge-handed}
 use Rattle.column_cells.specs.Strides.{strideFits}
 use Rattle.column_cells.specs.inner.Handed.{Handed}
@@ -48,13 +47,4 @@ returns-4 c =
 pub judge-column-spec : {M : Type 1} → statement M
 judge-column-spec =
     tie.close
-    (tie.spec
-    (λ c κs. search needs)
-    (λ c. search needs)
-    returns
-    (λ c. search needs)
-    mul-cells
-    returns-2
-    returns-3
-    (λ c κs. handed c)
-    returns-4)
+    (tie.spec (λ c κs. search needs) (λ c. search needs) returns (λ c. search needs) mul-cells returns-2 returns-3 (λ c κs. handed c) returns-4)

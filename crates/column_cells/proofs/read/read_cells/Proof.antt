@@ -1,4 +1,4 @@
--- `column_read::read_cells` meets its contract: what is still to be stored, stored over what there is, stays the same in each turn.
+-- What is still to be stored, stored over what there is, stays the same in each turn.
 use Rattle.column_cells.proofs.Parts.{cell-part}
 use Rattle.column_cells.proofs.Strides.{next-le, next-is}
 use Rattle.column_cells.proofs.Strides.{stride-turn, stride-done}
@@ -113,25 +113,6 @@ returns c =
 pub read-cells-spec : {M : Type 1} → statement M
 read-cells-spec =
     tie.close
-    (tie.spec
-    Inv-loop
-    μ-loop
-    (λ c κs. tt)
-    loop-holds
-    add-end
-    sub-read-value
-    part-read-value-start
-    part-read-value-end
-    (λ c κs. tt)
-    (λ c κs. tt)
-    slice-write-kinds
-    (λ c κs. tt)
-    mul-t17
-    slice-set-from-numbers
-    add-cell
-    (λ c. omega arith)
-    (λ c. omega arith)
-    loop-again
-    (λ c. omega arith)
-    (λ c. omega arith)
-    returns)
+    (tie.spec Inv-loop μ-loop (λ c κs. tt) loop-holds add-end sub-read-value part-read-value-start part-read-value-end (λ c κs. tt) (λ c κs. tt)
+    slice-write-kinds (λ c κs. tt) mul-t17 slice-set-from-numbers add-cell (λ c. omega arith) (λ c. omega arith) loop-again (λ c. omega arith)
+    (λ c. omega arith) returns)

@@ -1,4 +1,3 @@
--- `read::read_column` meets its contract.
 use Rattle.column_cells.proofs.Columns.{read-fit}
 use Rattle.column_cells.specs.Columns.{readFits}
 use Rattle.common.specs.Answers.{gives}
@@ -27,12 +26,5 @@ returns-2 c =
 pub read-column-spec : {M : Type 1} → statement M
 read-column-spec =
     tie.close
-    (tie.spec
-    (λ c κs. search needs)
-    (λ c. search needs)
-    returns
-    (λ c. search needs)
-    read-form-requires
-    (λ c. search needs)
-    (λ c. search needs)
+    (tie.spec (λ c κs. search needs) (λ c. search needs) returns (λ c. search needs) read-form-requires (λ c. search needs) (λ c. search needs)
     returns-2)

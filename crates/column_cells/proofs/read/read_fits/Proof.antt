@@ -1,4 +1,4 @@
--- `read::read_fits` meets its contract: each test is the answer's next.
+-- Each test is the answer's next.
 use Rattle.column_cells.proofs.Columns.{stride-inside}
 use Rattle.column_cells.specs.Strides.{formWidth, strideFits}
 use Rattle.cell.specs.Forms.{typeIn, longIn}
@@ -76,17 +76,5 @@ returns-7 c =
 pub read-fits-spec : {M : Type 1} → statement M
 read-fits-spec =
     tie.close
-    (tie.spec
-    returns
-    (λ c κs. search needs)
-    (λ c. search needs)
-    returns-2
-    (λ c. search needs)
-    returns-3
-    (λ c κs. search needs)
-    mul-if3
-    returns-4
-    mul-cells
-    returns-5
-    returns-6
-    returns-7)
+    (tie.spec returns (λ c κs. search needs) (λ c. search needs) returns-2 (λ c. search needs) returns-3 (λ c κs. search needs) mul-if3 returns-4
+    mul-cells returns-5 returns-6 returns-7)

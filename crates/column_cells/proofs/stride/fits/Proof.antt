@@ -1,4 +1,3 @@
--- `stride::fits` meets its contract.
 use borrow.Author.Tests.{lt-ltb, le-ltb, le-leb, lt-leb}
 use borrow.Author.Needs.{needs}
 use Rattle.column_cells.proofs.stride.fits.Statement.{statement}

@@ -24,9 +24,4 @@ returns c =
 pub strandroost-is-valid-value-spec : {M : Type 1} → statement M
 strandroost-is-valid-value-spec =
     tie.close
-    (tie.spec
-    (λ c κs. search needs)
-    (λ c κs. search needs)
-    (λ c κs. search needs)
-    (λ c κs. search needs)
-    returns)
+    (tie.spec (λ c κs. search needs) (λ c κs. search needs) (λ c κs. search needs) (λ c κs. search needs) returns)

@@ -68,14 +68,5 @@ returns-5 c =
 pub choose-spec : {M : Type 1} → statement M
 choose-spec =
     tie.close
-    (tie.spec
-    returns
-    returns-2
-    (λ c κs. search needs)
-    returns-3
-    search-requires
-    used-after-requires
-    (λ c. search needs)
-    (λ c. search needs)
-    returns-4
+    (tie.spec returns returns-2 (λ c κs. search needs) returns-3 search-requires used-after-requires (λ c. search needs) (λ c. search needs) returns-4
     returns-5)

@@ -51,16 +51,5 @@ returns-6 c =
 pub first-entry-spec : {M : Type 1} → statement M
 first-entry-spec =
     tie.close
-    (tie.spec
-    returns
-    returns-2
-    (λ c κs. search needs)
-    (λ c κs. search needs)
-    cast-t6
-    returns-3
-    (λ c. search needs)
-    returns-4
-    returns-5
-    (λ c κs. search needs)
-    cast-t9
-    returns-6)
+    (tie.spec returns returns-2 (λ c κs. search needs) (λ c κs. search needs) cast-t6 returns-3 (λ c. search needs) returns-4 returns-5
+    (λ c κs. search needs) cast-t9 returns-6)

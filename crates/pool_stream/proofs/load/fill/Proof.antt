@@ -112,26 +112,6 @@ returns-2 c = (run-end (c .before .loop .inv .0) (c .loop-test .left), run-end (
 pub fill-spec : {M : Type 1} → statement M
 fill-spec =
     tie.close
-    (tie.spec
-    Inv-loop
-    μ-loop
-    loop-holds
-    (λ c. omega arith)
-    (λ c. search needs)
-    (λ c. search needs)
-    (λ c κs. search needs)
-    (λ c. search needs)
-    same-length
-    same-length-2
-    returns
-    (λ c. omega arith)
-    slice-write-lengths
-    (λ c. omega arith)
-    slice-write-counts
-    (λ c. omega arith)
-    add-at
-    (λ c. omega arith)
-    loop-again
-    same-length-3
-    same-length-4
-    returns-2)
+    (tie.spec Inv-loop μ-loop loop-holds (λ c. omega arith) (λ c. search needs) (λ c. search needs) (λ c κs. search needs) (λ c. search needs)
+    same-length same-length-2 returns (λ c. omega arith) slice-write-lengths (λ c. omega arith) slice-write-counts (λ c. omega arith) add-at
+    (λ c. omega arith) loop-again same-length-3 same-length-4 returns-2)

@@ -27,13 +27,5 @@ returns-2 c =
 pub load-entries-spec : {M : Type 1} → statement M
 load-entries-spec =
     tie.close
-    (tie.spec
-    (λ c κs. search needs)
-    (λ c κs. search needs)
-    (λ c. search needs)
-    fill-requires
-    (λ c. search needs)
-    (λ c. search needs)
-    (λ c. search needs)
-    returns
-    returns-2)
+    (tie.spec (λ c κs. search needs) (λ c κs. search needs) (λ c. search needs) fill-requires (λ c. search needs) (λ c. search needs)
+    (λ c. search needs) returns returns-2)

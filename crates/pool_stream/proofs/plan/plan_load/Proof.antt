@@ -48,14 +48,5 @@ returns-3 c =
 pub plan-load-spec : {M : Type 1} → statement M
 plan-load-spec =
     tie.close
-    (tie.spec
-    (λ c κs. search needs)
-    (λ c. search needs)
-    returns
-    (λ c. search needs)
-    sizes-requires
-    (λ c. search needs)
-    (λ c. search needs)
-    (λ c κs. search needs)
-    returns-2
-    returns-3)
+    (tie.spec (λ c κs. search needs) (λ c. search needs) returns (λ c. search needs) sizes-requires (λ c. search needs) (λ c. search needs)
+    (λ c κs. search needs) returns-2 returns-3)

@@ -62,15 +62,5 @@ returns-2 c =
 pub write-entry-spec : {M : Type 1} → statement M
 write-entry-spec =
     tie.close
-    (tie.spec
-    (λ c κs. search needs)
-    (λ c κs. search needs)
-    add-write
-    (λ c κs. search needs)
-    (λ c κs. search needs)
-    add-write-2
-    (λ c κs. search needs)
-    (λ c. search needs)
-    returns
-    (λ c. search needs)
-    returns-2)
+    (tie.spec (λ c κs. search needs) (λ c κs. search needs) add-write (λ c κs. search needs) (λ c κs. search needs) add-write-2 (λ c κs. search needs)
+    (λ c. search needs) returns (λ c. search needs) returns-2)

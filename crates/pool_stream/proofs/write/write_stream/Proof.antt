@@ -59,12 +59,5 @@ returns-2 c =
 pub write-stream-spec : {M : Type 1} → statement M
 write-stream-spec =
     tie.close
-    (tie.spec
-    (λ c κs. search needs)
-    (λ c. search needs)
-    (λ c. search needs)
-    mark-requires
-    write-fitting-requires
-    returns
-    (λ c. search needs)
+    (tie.spec (λ c κs. search needs) (λ c. search needs) (λ c. search needs) mark-requires write-fitting-requires returns (λ c. search needs)
     returns-2)

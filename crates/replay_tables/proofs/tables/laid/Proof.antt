@@ -10,15 +10,5 @@ slice-aggregate-from-bitfields-2 c = sym (length-take-le _ _ (search needs))
 pub laid-spec : {M : Type 1} → statement M
 laid-spec =
     tie.close
-    (tie.spec
-    (λ c κs. search needs)
-    (λ c. search needs)
-    (λ c. search needs)
-    (λ c κs. search needs)
-    (λ c. search needs)
-    (λ c. search needs)
-    (λ c κs. search needs)
-    (λ c. search needs)
-    slice-aggregate-from-bitfields-2
-    (λ c κs. search needs)
-    (λ c. search needs))
+    (tie.spec (λ c κs. search needs) (λ c. search needs) (λ c. search needs) (λ c κs. search needs) (λ c. search needs) (λ c. search needs)
+    (λ c κs. search needs) (λ c. search needs) slice-aggregate-from-bitfields-2 (λ c κs. search needs) (λ c. search needs))

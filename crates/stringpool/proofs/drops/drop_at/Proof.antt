@@ -76,16 +76,5 @@ returns-3 c =
 pub drop-at-spec : {M : Type 1} → statement M
 drop-at-spec =
     tie.close
-    (tie.spec
-    (λ c κs. search needs)
-    (λ c κs. search needs)
-    (λ c. search needs)
-    returns
-    (λ c. search needs)
-    (λ c. search needs)
-    returns-2
-    start-of-requires
-    mul-t13
-    shared-slice-read-t15
-    cast-t16
-    returns-3)
+    (tie.spec (λ c κs. search needs) (λ c κs. search needs) (λ c. search needs) returns (λ c. search needs) (λ c. search needs) returns-2
+    start-of-requires mul-t13 shared-slice-read-t15 cast-t16 returns-3)

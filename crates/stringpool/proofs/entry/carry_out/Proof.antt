@@ -50,22 +50,6 @@ returns-3 c =
 pub carry-out-spec : {M : Type 1} → statement M
 carry-out-spec =
     tie.close
-    (tie.spec
-    (λ c. search needs)
-    (λ c. search needs)
-    mul-counts
-    slice-write-counts
-    (λ c. search needs)
-    (λ c κs. search needs)
-    cast-lengths
-    mul-lengths
-    slice-write-lengths
-    mul-counts-2
-    slice-write-counts-2
-    returns
-    (λ c. search needs)
-    returns-2
-    (λ c. search needs)
-    (λ c. search needs)
-    (λ c. search needs)
-    returns-3)
+    (tie.spec (λ c. search needs) (λ c. search needs) mul-counts slice-write-counts (λ c. search needs) (λ c κs. search needs) cast-lengths
+    mul-lengths slice-write-lengths mul-counts-2 slice-write-counts-2 returns (λ c. search needs) returns-2 (λ c. search needs) (λ c. search needs)
+    (λ c. search needs) returns-3)

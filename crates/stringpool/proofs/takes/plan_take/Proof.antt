@@ -86,20 +86,5 @@ returns-4 c =
 pub plan-take-spec : {M : Type 1} → statement M
 plan-take-spec =
     tie.close
-    (tie.spec
-    (λ c κs. search needs)
-    (λ c. search needs)
-    (λ c. search needs)
-    (λ c κs. search needs)
-    put-added-requires
-    returns
-    mul-count
-    shared-slice-read-count
-    add-t21
-    returns-2
-    mul-old
-    shared-slice-read-old
-    cast-old
-    put-free-requires
-    returns-3
-    returns-4)
+    (tie.spec (λ c κs. search needs) (λ c. search needs) (λ c. search needs) (λ c κs. search needs) put-added-requires returns mul-count
+    shared-slice-read-count add-t21 returns-2 mul-old shared-slice-read-old cast-old put-free-requires returns-3 returns-4)

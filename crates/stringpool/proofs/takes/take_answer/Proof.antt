@@ -29,13 +29,5 @@ returns-3 c = ap₂ (λ (r : StringRef) (q : StringPool). gives (r .0, q)) (c .b
 pub take-answer-spec : {M : Type 1} → statement M
 take-answer-spec =
     tie.close
-    (tie.spec
-    (λ c. search needs)
-    (λ c. search needs)
-    reference-requires
-    (λ c. search needs)
-    reference-requires-2
-    holding-requires
-    returns
-    returns-2
+    (tie.spec (λ c. search needs) (λ c. search needs) reference-requires (λ c. search needs) reference-requires-2 holding-requires returns returns-2
     returns-3)

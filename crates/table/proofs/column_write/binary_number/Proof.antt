@@ -1,4 +1,3 @@
--- `column_write::binary_number` meets its contract. Assumes nothing.
 use Rattle.table.proofs.Judged.{else-binary}
 use mathlib.Core.Path.{refl}
 use borrow.Author.Needs.{needs}

@@ -1,4 +1,4 @@
--- `column_write::integer_number` meets its contract: a judged integer is near enough to 0 for n + half to fit. Assumes nothing.
+-- A judged integer is near enough to 0 for n + half to fit.
 use Rattle.table.proofs.Judged.{else-integer, near, half-fits, half-sum, half-bits}
 use Rattle.cell.proofs.Halves.{widens, integer-given}
 use mir.Syntax.{w32}

@@ -1,4 +1,4 @@
--- `column_write::number_of` meets its contract: in each arm the form is known, and the cell's case says its kind. Assumes nothing.
+-- In each arm the form is known, and the cell's case says its kind.
 use Rattle.table.proofs.Judged.{judged-by, reference-numbered}
 use Rattle.cell.proofs.Forms.{integer-by-kind, reference-by-kind, binary-by-kind}
 use Rattle.common.specs.Answers.{gives}
@@ -48,19 +48,5 @@ returns-5 c = rw (c .before .enum-told5 .given .1) (λ at. sym (binary-by-kind a
 pub number-of-spec : {M : Type 1} → statement M
 number-of-spec =
     tie.close
-    (tie.spec
-    (λ c. search needs)
-    integer-number-requires
-    (λ c. search needs)
-    integer-number-requires-2
-    (λ c. search needs)
-    reference-number-requires
-    (λ c. search needs)
-    reference-number-requires-2
-    (λ c. search needs)
-    binary-number-requires
-    returns
-    returns-2
-    returns-3
-    returns-4
-    returns-5)
+    (tie.spec (λ c. search needs) integer-number-requires (λ c. search needs) integer-number-requires-2 (λ c. search needs) reference-number-requires
+    (λ c. search needs) reference-number-requires-2 (λ c. search needs) binary-number-requires returns returns-2 returns-3 returns-4 returns-5)

@@ -1,4 +1,4 @@
--- `column_write::reference_number` meets its contract: a judged reference is not negative. Assumes nothing.
+-- A judged reference is not negative.
 use Rattle.table.proofs.Judged.{else-reference, referred}
 use Rattle.cell.proofs.Cells.{good-bits}
 use mir.Facts.{toZ-ofZ}

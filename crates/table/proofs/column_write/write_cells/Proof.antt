@@ -1,4 +1,4 @@
--- `column_write::write_cells` meets its contract. What is still to be written, put at the place, stays the same in each turn. Assumes nothing.
+-- What is still to be written, put at the place, stays the same in each turn.
 use Rattle.common.proofs.Lists.{from-next}
 use Rattle.common.proofs.Answers.{fine-first}
 use Rattle.table.proofs.Plain.{plain-turn, plain-end}
@@ -156,24 +156,6 @@ returns c =
 pub write-cells-spec : {M : Type 1} → statement M
 write-cells-spec =
     tie.close
-    (tie.spec
-    Inv-loop
-    μ-loop
-    (λ c κs. tt)
-    loop-holds
-    shared-slice-read-kind
-    mul-number
-    shared-slice-copy-out-number
-    (λ c κs. tt)
-    number-of-requires
-    add-end
-    sub-write
-    part-write-start
-    part-write-end
-    (λ c κs. tt)
-    add-cell
-    (λ c. omega arith)
-    (λ c. omega arith)
-    loop-again
-    (λ c. omega arith)
+    (tie.spec Inv-loop μ-loop (λ c κs. tt) loop-holds shared-slice-read-kind mul-number shared-slice-copy-out-number (λ c κs. tt) number-of-requires
+    add-end sub-write part-write-start part-write-end (λ c κs. tt) add-cell (λ c. omega arith) (λ c. omega arith) loop-again (λ c. omega arith)
     returns)

@@ -1,4 +1,4 @@
--- `column_write::write_column` meets its contract: in each arm the form is known. Assumes nothing.
+-- In each arm the form is known.
 use borrow.Author.Needs.{needs}
 use Rattle.table.proofs.column_write.write_column.Statement.{statement}
 use Rattle.table.proofs.column_write.write_column.Tie as tie
@@ -21,24 +21,10 @@ write-cells-requires-5 c κs = rw (c .before .enum-told5 .given .1) at (c .befor
 pub write-column-spec : {M : Type 1} → statement M
 write-column-spec =
     tie.close
-    (tie.spec
-    (λ c. search needs)
-    write-cells-requires
-    (λ c. search needs)
-    write-cells-requires-2
-    (λ c. search needs)
-    write-cells-requires-3
-    (λ c. search needs)
-    write-cells-requires-4
-    (λ c. search needs)
-    write-cells-requires-5
-    (λ c. search needs)
-    (λ c. rw (c .before .before .before .before .enum-told .given .1) (c .before .before .write-cells .ensures))
-    (λ c. search needs)
-    (λ c. rw (c .before .before .before .before .enum-told2 .given .1) (c .before .before .write-cells2 .ensures))
-    (λ c. search needs)
-    (λ c. rw (c .before .before .before .before .enum-told3 .given .1) (c .before .before .write-cells3 .ensures))
-    (λ c. search needs)
-    (λ c. rw (c .before .before .before .before .enum-told4 .given .1) (c .before .before .write-cells4 .ensures))
-    (λ c. search needs)
+    (tie.spec (λ c. search needs) write-cells-requires (λ c. search needs) write-cells-requires-2 (λ c. search needs) write-cells-requires-3
+    (λ c. search needs) write-cells-requires-4 (λ c. search needs) write-cells-requires-5 (λ c. search needs)
+    (λ c. rw (c .before .before .before .before .enum-told .given .1) (c .before .before .write-cells .ensures)) (λ c. search needs)
+    (λ c. rw (c .before .before .before .before .enum-told2 .given .1) (c .before .before .write-cells2 .ensures)) (λ c. search needs)
+    (λ c. rw (c .before .before .before .before .enum-told3 .given .1) (c .before .before .write-cells3 .ensures)) (λ c. search needs)
+    (λ c. rw (c .before .before .before .before .enum-told4 .given .1) (c .before .before .write-cells4 .ensures)) (λ c. search needs)
     (λ c. rw (c .before .before .before .before .enum-told5 .given .1) (c .before .before .write-cells5 .ensures)))

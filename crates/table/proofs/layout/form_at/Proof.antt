@@ -1,4 +1,3 @@
--- `layout::form_at` meets its contract.
 use Rattle.widths.proofs.Judged.{type-at}
 use borrow.Author.Needs.{needs}
 use Rattle.table.proofs.layout.form_at.Statement.{statement}

@@ -1,4 +1,3 @@
--- `layout::no_table` meets its contract. Assumes nothing.
 use borrow.Author.Needs.{needs}
 use Rattle.table.proofs.layout.no_table.Statement.{statement}
 use Rattle.table.proofs.layout.no_table.Tie as tie

@@ -1,4 +1,3 @@
--- `read::cell_in` meets its contract.
 use Rattle.table.proofs.Layouts.{column-width, column-start, inside, small}
 use Rattle.widths.specs.Widths.{rowSize, typeAt}
 use Rattle.table.specs.Layout.{typesOf}
@@ -46,13 +45,8 @@ returns c =
 pub cell-in-spec : {M : Type 1} → statement M
 cell-in-spec =
     tie.close
-    (tie.spec
-    (λ c. omega (arith, c .before .pre .0 .narrow, c .before .pre .2))
-    (λ c. omega (arith, c .before .pre .0 .narrow, c .before .pre .2))
+    (tie.spec (λ c. omega (arith, c .before .pre .0 .narrow, c .before .pre .2)) (λ c. omega (arith, c .before .pre .0 .narrow, c .before .pre .2))
     (λ c. omega (arith, c .before .before .pre .0 .narrow, c .before .before .pre .2))
     (λ c. omega (arith, c .before .before .pre .0 .narrow, c .before .before .pre .2))
-    (λ c κs. (c .before .before .before .pre .2, c .before .before .before .pre .0 .narrow))
-    mul-read-value
-    add-read-value
-    (λ c κs. search needs)
+    (λ c κs. (c .before .before .before .pre .2, c .before .before .before .pre .0 .narrow)) mul-read-value add-read-value (λ c κs. search needs)
     returns)

@@ -1,4 +1,4 @@
--- `read::read_bands` meets its contract: the bands before this turn's are written.
+-- The bands before this turn's are written.
 use Rattle.table.proofs.Grid.{Banded, band-begin, band-turn, band-done, band-within}
 use Rattle.table.specs.Rows.{cellAt}
 use Rattle.table.specs.Layout.{typesOf}
@@ -84,26 +84,7 @@ returns c =
 pub read-bands-spec : {M : Type 1} → statement M
 read-bands-spec =
     tie.close
-    (tie.spec
-    Inv-loop
-    μ-loop
-    loop-holds
-    (λ c. omega arith)
-    (λ c κs. tt)
-    (λ c. omega (arith, band c))
-    (λ c. omega (arith, band c))
-    (λ c. omega (arith, band c))
-    (λ c. omega arith)
-    (λ c. omega arith)
-    part-read-columns-end
-    (λ c. omega (arith, band (c .before)))
-    (λ c. omega arith)
-    (λ c. omega arith)
-    part-read-columns-end-2
-    read-columns-requires
-    (λ c. omega (arith, band (c .before .before .before .before .before .before)))
-    loop-less
-    loop-again
-    (λ c. kept (c .before .loop .inv .1))
-    (λ c. kept (c .before .loop .inv .2))
-    returns)
+    (tie.spec Inv-loop μ-loop loop-holds (λ c. omega arith) (λ c κs. tt) (λ c. omega (arith, band c)) (λ c. omega (arith, band c))
+    (λ c. omega (arith, band c)) (λ c. omega arith) (λ c. omega arith) part-read-columns-end (λ c. omega (arith, band (c .before))) (λ c. omega arith)
+    (λ c. omega arith) part-read-columns-end-2 read-columns-requires (λ c. omega (arith, band (c .before .before .before .before .before .before)))
+    loop-less loop-again (λ c. kept (c .before .loop .inv .1)) (λ c. kept (c .before .loop .inv .2)) returns)

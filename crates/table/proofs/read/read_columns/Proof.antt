@@ -1,4 +1,4 @@
--- `read::read_columns` meets its contract: the columns before this turn's are right.
+-- The columns before this turn's are right.
 use Rattle.table.proofs.Column.{form-cell}
 use Rattle.table.proofs.Grid.{Filled, filled-none, filled-turn, filled-done, rows-shift}
 use Rattle.table.proofs.Layouts.{column-width, column-start, inside, small}
@@ -131,21 +131,7 @@ returns c =
 pub read-columns-spec : {M : Type 1} → statement M
 read-columns-spec =
     tie.close
-    (tie.spec
-    Inv-loop
-    μ-loop
-    loop-holds
-    (λ c. omega (arith, at-start c .pre .0 .narrow))
-    (λ c. omega (arith, at-start c .pre .0 .narrow))
-    (λ c. omega (arith, at-start (c .before) .pre .0 .narrow))
-    (λ c. omega (arith, at-start (c .before) .pre .0 .narrow))
-    mul-from-3
-    add-from
-    (λ c κs. (c .before .before .loop-test .taken, at-start (c .before .before) .pre .0 .narrow))
-    (λ c κs. tt)
-    (λ c. omega arith)
-    (λ c. omega arith)
-    loop-again
-    same-length
-    same-length-2
-    returns)
+    (tie.spec Inv-loop μ-loop loop-holds (λ c. omega (arith, at-start c .pre .0 .narrow)) (λ c. omega (arith, at-start c .pre .0 .narrow))
+    (λ c. omega (arith, at-start (c .before) .pre .0 .narrow)) (λ c. omega (arith, at-start (c .before) .pre .0 .narrow)) mul-from-3 add-from
+    (λ c κs. (c .before .before .loop-test .taken, at-start (c .before .before) .pre .0 .narrow)) (λ c κs. tt) (λ c. omega arith) (λ c. omega arith)
+    loop-again same-length same-length-2 returns)

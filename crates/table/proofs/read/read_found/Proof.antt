@@ -1,4 +1,3 @@
--- `read::read_found` meets its contract.
 use borrow.Author.Tests.{lt-ltb, le-ltb}
 use native.Mathlib.Omega.{arith}
 use native.Mathlib.Nat.{mul-le-mul-right}
@@ -28,11 +27,4 @@ returns-3 c =
 pub read-found-spec : {M : Type 1} → statement M
 read-found-spec =
     tie.close
-    (tie.spec
-    mul-cells
-    returns
-    returns-2
-    read-bands-requires
-    (λ c. search needs)
-    (λ c. search needs)
-    returns-3)
+    (tie.spec mul-cells returns returns-2 read-bands-requires (λ c. search needs) (λ c. search needs) returns-3)

@@ -1,4 +1,4 @@
--- `write::judge_columns` meets its contract: what the columns that are left say, is what all say. Assumes nothing.
+-- What the columns that are left say, is what all say.
 use Rattle.cell.specs.Forms.{formFor}
 use Rattle.table.proofs.Column.{column-judged, table-judged}
 use Rattle.table.proofs.Layouts.{types-count}
@@ -81,16 +81,5 @@ returns-2 c =
 pub judge-columns-spec : {M : Type 1} → statement M
 judge-columns-spec =
     tie.close
-    (tie.spec
-    Inv-loop
-    μ-loop
-    loop-holds
-    form-at-requires
-    (λ c κs. tt)
-    (λ c. search needs)
-    returns
-    (λ c. search needs)
-    (λ c. search needs)
-    (λ c. search needs)
-    loop-again
-    returns-2)
+    (tie.spec Inv-loop μ-loop loop-holds form-at-requires (λ c κs. tt) (λ c. search needs) returns (λ c. search needs) (λ c. search needs)
+    (λ c. search needs) loop-again returns-2)

@@ -1,4 +1,4 @@
--- `write::write_columns` meets its contract. What is still to be written, put at the place, stays the same in each turn. Assumes nothing.
+-- What is still to be written, put at the place, stays the same in each turn.
 use Rattle.table.proofs.Column.{column-judged, column-bytes, column-length, column-within, size-next, table-judged}
 use Rattle.table.proofs.Layouts.{types-count}
 use Rattle.common.proofs.Lists.{from-next}
@@ -136,20 +136,5 @@ returns c =
 pub write-columns-spec : {M : Type 1} → statement M
 write-columns-spec =
     tie.close
-    (tie.spec
-    Inv-loop
-    μ-loop
-    loop-holds
-    form-at-requires
-    sub-write-column
-    part-write-column-start
-    part-write-column-end
-    write-column-requires
-    (λ c κs. tt)
-    mul-at
-    add-at
-    (λ c. omega arith)
-    (λ c. omega arith)
-    loop-again
-    (λ c. omega arith)
-    returns)
+    (tie.spec Inv-loop μ-loop loop-holds form-at-requires sub-write-column part-write-column-start part-write-column-end write-column-requires
+    (λ c κs. tt) mul-at add-at (λ c. omega arith) (λ c. omega arith) loop-again (λ c. omega arith) returns)

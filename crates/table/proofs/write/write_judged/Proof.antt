@@ -1,4 +1,4 @@
--- `write::write_judged` meets its contract: each test is the answer's next.
+-- Each test is the answer's next.
 use Rattle.table.specs.inner.Columns.{plain}
 use Rattle.common.specs.Lists.{_over_}
 use Rattle.order.specs.Order.{bulkFits}
@@ -95,18 +95,5 @@ returns-4 c =
 pub write-judged-spec : {M : Type 1} → statement M
 write-judged-spec =
     tie.close
-    (tie.spec
-    (λ c. search needs)
-    (λ c κs. search needs)
-    (λ c. search needs)
-    returns
-    (λ c. search needs)
-    judge-columns-requires
-    (λ c. search needs)
-    returns-2
-    (λ c. search needs)
-    mul-bytes
-    returns-3
-    write-columns-requires
-    (λ c. search needs)
-    returns-4)
+    (tie.spec (λ c. search needs) (λ c κs. search needs) (λ c. search needs) returns (λ c. search needs) judge-columns-requires (λ c. search needs)
+    returns-2 (λ c. search needs) mul-bytes returns-3 write-columns-requires (λ c. search needs) returns-4)

@@ -45,11 +45,4 @@ returns-2 c =
 pub replace-spec : {M : Type 1} → statement M
 replace-spec =
     tie.close
-    (tie.spec
-    replace-fits-requires
-    enum-known-fits
-    enum-told
-    put-requires
-    returns
-    same-length
-    returns-2)
+    (tie.spec replace-fits-requires enum-known-fits enum-told put-requires returns same-length returns-2)

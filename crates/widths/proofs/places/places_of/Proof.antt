@@ -1,4 +1,4 @@
--- `places::places_of` meets its contract: each test is the answer's next.
+-- Each test is the answer's next.
 use Rattle.widths.proofs.Judged.{types-count, count-few, columns-refused, columns-passed}
 use Rattle.widths.proofs.Rows.{size-some, size-le, length-widths, widths-refused, widths-given, starts-same, places-same}
 use Rattle.widths.specs.declared.widths.Widths.{Widths}
@@ -87,16 +87,5 @@ returns-4 c =
 pub places-of-spec : {M : Type 1} → statement M
 places-of-spec =
     tie.close
-    (tie.spec
-    (λ c κs. search needs)
-    returns
-    (λ c κs. search needs)
-    (λ c. search needs)
-    (λ c κs. search needs)
-    returns-2
-    (λ c. search needs)
-    (λ c κs. search needs)
-    (λ c κs. search needs)
-    returns-3
-    starts-of-requires
-    returns-4)
+    (tie.spec (λ c κs. search needs) returns (λ c κs. search needs) (λ c. search needs) (λ c κs. search needs) returns-2 (λ c. search needs)
+    (λ c κs. search needs) (λ c κs. search needs) returns-3 starts-of-requires returns-4)

@@ -1,4 +1,3 @@
--- `places::rows_of` meets its contract.
 use borrow.Author.Tests.{eq-eqb, ne-eqb}
 use borrow.Author.Needs.{needs}
 use Rattle.widths.proofs.places.rows_of.Statement.{statement}

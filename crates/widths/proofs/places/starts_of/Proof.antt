@@ -1,4 +1,4 @@
--- `places::starts_of` meets its contract: what is still to be stored, stored over what there is, stays the same in each turn.
+-- What is still to be stored, stored over what there is, stays the same in each turn.
 use Rattle.widths.specs.Places.{startsFrom}
 use Rattle.widths.specs.Widths.{zeros}
 use Rattle.common.proofs.Parts.{over-none, over-set}
@@ -65,17 +65,7 @@ returns c =
 pub starts-of-spec : {M : Type 1} → statement M
 starts-of-spec =
     tie.close
-    (tie.spec
-    Inv-loop
-    μ-loop
-    loop-holds
-    column-start-requires
-    (λ c. omega (arith, c .before .before .before .pre .0))
-    (λ c. omega (arith, c .before .before .before .pre .0))
-    (λ c. omega (arith, c .before .before .before .pre .0))
-    (λ c. omega (arith, c .before .before .before .pre .0))
-    (λ c. omega (arith, sum (c .before), c .before .before .before .pre .3))
-    (λ c. omega arith)
-    (λ c. omega arith)
-    loop-again
-    returns)
+    (tie.spec Inv-loop μ-loop loop-holds column-start-requires (λ c. omega (arith, c .before .before .before .pre .0))
+    (λ c. omega (arith, c .before .before .before .pre .0)) (λ c. omega (arith, c .before .before .before .pre .0))
+    (λ c. omega (arith, c .before .before .before .pre .0)) (λ c. omega (arith, sum (c .before), c .before .before .before .pre .3))
+    (λ c. omega arith) (λ c. omega arith) loop-again returns)

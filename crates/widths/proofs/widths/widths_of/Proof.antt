@@ -1,4 +1,4 @@
--- `widths::widths_of` meets its contract: what is still to be stored, stored over what there is, and what the columns that are left say, stay the same
+-- What is still to be stored, stored over what there is, and what the columns that are left say, stay the same
 -- in each turn.
 use Rattle.widths.proofs.Judged.{noColumn, columns-next, columns-done, at-turn, at-stop, form-said, judged-is, columns-refused, columns-passed}
 use Rattle.widths.specs.declared.widths.Widths.{Widths}
@@ -116,25 +116,8 @@ returns-3 c =
 pub widths-of-spec : {M : Type 1} → statement M
 widths-of-spec =
     tie.close
-    (tie.spec
-    Inv-loop
-    μ-loop
-    (λ c κs. tt)
-    returns
-    loop-holds
-    (λ c. omega (arith, c .before .before .if1 .left))
-    (λ c. omega (arith, c .before .before .if1 .left))
-    (λ c κs. tt)
-    (λ c. search needs)
-    (λ c κs. tt)
-    returns-2
-    (λ c. search needs)
-    (λ c κs. tt)
-    (λ c κs. tt)
-    (λ c. omega (arith, c .before .before .before .before .before .before .before .before .if1 .left))
-    (λ c. omega (arith, c .before .before .before .before .before .before .before .before .if1 .left))
-    add-row-size
-    (λ c. omega arith)
-    (λ c. omega arith)
-    loop-again
-    returns-3)
+    (tie.spec Inv-loop μ-loop (λ c κs. tt) returns loop-holds (λ c. omega (arith, c .before .before .if1 .left))
+    (λ c. omega (arith, c .before .before .if1 .left)) (λ c κs. tt) (λ c. search needs) (λ c κs. tt) returns-2 (λ c. search needs) (λ c κs. tt)
+    (λ c κs. tt) (λ c. omega (arith, c .before .before .before .before .before .before .before .before .if1 .left))
+    (λ c. omega (arith, c .before .before .before .before .before .before .before .before .if1 .left)) add-row-size (λ c. omega arith)
+    (λ c. omega arith) loop-again returns-3)

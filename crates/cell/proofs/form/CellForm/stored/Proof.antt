@@ -1,5 +1,5 @@
 use mathlib.Core.Bool.{true, false}
--- `CellForm::stored` meets its contract: in each arm the form is known, and the cell's case says its kind. Assumes nothing.
+-- In each arm the form is known, and the cell's case says its kind.
 use Rattle.cell.proofs.Forms.{integer-by-kind, reference-by-kind, binary-by-kind}
 use Rattle.common.specs.Answers.{cell}
 use mathlib.Core.Path.{_∙_}
@@ -35,19 +35,5 @@ returns-5 c =
 pub stored-spec : {M : Type 1} → statement M
 stored-spec =
     tie.close
-    (tie.spec
-    (λ c. search needs)
-    (λ c κs. search needs)
-    (λ c. search needs)
-    (λ c κs. search needs)
-    (λ c. search needs)
-    (λ c κs. search needs)
-    (λ c. search needs)
-    (λ c κs. search needs)
-    (λ c. search needs)
-    (λ c κs. search needs)
-    returns
-    returns-2
-    returns-3
-    returns-4
-    returns-5)
+    (tie.spec (λ c. search needs) (λ c κs. search needs) (λ c. search needs) (λ c κs. search needs) (λ c. search needs) (λ c κs. search needs)
+    (λ c. search needs) (λ c κs. search needs) (λ c. search needs) (λ c κs. search needs) returns returns-2 returns-3 returns-4 returns-5)

@@ -1,4 +1,3 @@
--- `ColumnType::form` meets its contract. Assumes nothing.
 use borrow.Author.Tests.{lt-ltb, le-ltb}
 use borrow.Author.Needs.{needs}
 use Rattle.cell.proofs.form.ColumnType.form.Statement.{statement}
@@ -16,14 +15,5 @@ returns-5 c = rw (c .before .before .before .self .given .1, le-ltb _ _ (c .befo
 pub form-spec : {M : Type 1} → statement M
 form-spec =
     tie.close
-    (tie.spec
-    (λ c. search needs)
-    (λ c. search needs)
-    (λ c. search needs)
-    returns
-    returns-2
-    (λ c. search needs)
-    (λ c. rw (c .enum-told .given .1))
-    (λ c. rw (c .enum-told2 .given .1))
-    returns-5
-    (λ c. rw (c .enum-told3 .given .1)))
+    (tie.spec (λ c. search needs) (λ c. search needs) (λ c. search needs) returns returns-2 (λ c. search needs) (λ c. rw (c .enum-told .given .1))
+    (λ c. rw (c .enum-told2 .given .1)) returns-5 (λ c. rw (c .enum-told3 .given .1)))

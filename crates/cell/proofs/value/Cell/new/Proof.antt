@@ -1,4 +1,3 @@
--- `Cell::new` meets its contract. Assumes nothing.
 use native.Mathlib.Omega.{arith}
 use borrow.Author.Tests.{lt-ltb}
 use mir.Syntax.{w32}

@@ -1,4 +1,4 @@
--- `Column::bitfield` meets its contract: the marks are added to the type's bits. Assumes nothing.
+-- The marks are added to the type's bits.
 use Rattle.column.proofs.Types.{sound-type, long-type}
 use Rattle.column.proofs.Masks.{all-marks, type-clear}
 use Rattle.column.specs.Columns.{marks}
@@ -40,15 +40,5 @@ returns-2 c =
 pub bitfield-spec : {M : Type 1} → statement M
 bitfield-spec =
     tie.close
-    (tie.spec
-    (λ c κs. search needs)
-    returns
-    type-bits-requires
-    (λ c. search needs)
-    (λ c κs. search needs)
-    (λ c. search needs)
-    (λ c κs. search needs)
-    (λ c. search needs)
-    (λ c κs. search needs)
-    cast-t10
-    returns-2)
+    (tie.spec (λ c κs. search needs) returns type-bits-requires (λ c. search needs) (λ c κs. search needs) (λ c. search needs) (λ c κs. search needs)
+    (λ c. search needs) (λ c κs. search needs) cast-t10 returns-2)

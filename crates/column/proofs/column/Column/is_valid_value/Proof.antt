@@ -1,4 +1,3 @@
--- `Column::is_valid_value` meets its contract. Assumes nothing.
 use Rattle.column.proofs.Types.{sound-type, long-type}
 use Rattle.common.specs.Answers.{gives}
 use borrow.Author.Tests.{lt-ltb, le-ltb}

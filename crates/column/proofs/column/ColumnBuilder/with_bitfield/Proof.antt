@@ -1,4 +1,4 @@
--- `ColumnBuilder::with_bitfield` meets its contract: the type is that of the bits, and each mark is a bit. Assumes nothing.
+-- The type is that of the bits, and each mark is a bit.
 use Rattle.column.proofs.Masks.{mark-is}
 use Rattle.column.proofs.Unnamed.{bits-are}
 use mir.Facts.{toZ-ofZ}

@@ -27,13 +27,5 @@ returns c =
 pub decref-spec : {M : Type 1} → statement M
 decref-spec =
     tie.close
-    (tie.spec
-    (λ c κs. search needs)
-    (λ c. search needs)
-    (λ c. search needs)
-    carry-out-requires
-    (λ c κs. search needs)
-    (λ c. search needs)
-    (λ c. search needs)
-    (λ c. search needs)
-    returns)
+    (tie.spec (λ c κs. search needs) (λ c. search needs) (λ c. search needs) carry-out-requires (λ c κs. search needs) (λ c. search needs)
+    (λ c. search needs) (λ c. search needs) returns)

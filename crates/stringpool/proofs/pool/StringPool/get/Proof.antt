@@ -109,25 +109,6 @@ returns-4 c =
 pub get-spec : {M : Type 1} → statement M
 get-spec =
     tie.close
-    (tie.spec
-    (λ c κs. search needs)
-    (λ c. search needs)
-    (λ c. search needs)
-    (λ c. search needs)
-    returns
-    (λ c κs. search needs)
-    (λ c. search needs)
-    (λ c. search needs)
-    (λ c. search needs)
-    returns-2
-    (λ c. search needs)
-    returns-3
-    start-of-requires
-    mul-end
-    shared-slice-read-end
-    cast-end
-    add-end
-    (λ c. search needs)
-    (λ c. search needs)
-    part-result-end
-    returns-4)
+    (tie.spec (λ c κs. search needs) (λ c. search needs) (λ c. search needs) (λ c. search needs) returns (λ c κs. search needs) (λ c. search needs)
+    (λ c. search needs) (λ c. search needs) returns-2 (λ c. search needs) returns-3 start-of-requires mul-end shared-slice-read-end cast-end add-end
+    (λ c. search needs) (λ c. search needs) part-result-end returns-4)

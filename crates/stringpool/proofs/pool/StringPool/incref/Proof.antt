@@ -25,11 +25,4 @@ returns c =
 pub incref-spec : {M : Type 1} → statement M
 incref-spec =
     tie.close
-    (tie.spec
-    (λ c κs. search needs)
-    carry-out-requires
-    take-answer-requires
-    (λ c. search needs)
-    (λ c. search needs)
-    (λ c. search needs)
-    returns)
+    (tie.spec (λ c κs. search needs) carry-out-requires take-answer-requires (λ c. search needs) (λ c. search needs) (λ c. search needs) returns)

@@ -51,11 +51,4 @@ returns-2 c =
 pub write-data-spec : {M : Type 1} → statement M
 write-data-spec =
     tie.close
-    (tie.spec
-    (λ c κs. search needs)
-    (λ c. search needs)
-    (λ c. search needs)
-    write-texts-requires
-    returns
-    (λ c. search needs)
-    returns-2)
+    (tie.spec (λ c κs. search needs) (λ c. search needs) (λ c. search needs) write-texts-requires returns (λ c. search needs) returns-2)

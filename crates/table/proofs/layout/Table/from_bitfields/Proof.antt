@@ -1,5 +1,5 @@
 use Rattle.table.proofs.Bits.{bits-given, bits-bad, bits-turn, bits-stop, laid-stop, laid-done}
--- `Table::from_bitfields` meets its contract: what the bitfields that are left make of the columns so far, is what all make. Assumes nothing.
+-- What the bitfields that are left make of the columns so far, is what all make.
 use Rattle.widths.specs.Judged.{eachAt}
 use Rattle.table.specs.Layout.{unused}
 use Rattle.column.specs.Columns.{building, bitsColumn, columnMadeAs}
@@ -86,25 +86,6 @@ returns-3 c =
 pub from-bitfields-spec : {M : Type 1} → statement M
 from-bitfields-spec =
     tie.close
-    (tie.spec
-    Inv-loop
-    μ-loop
-    (λ c κs. tt)
-    (λ c κs. tt)
-    (λ c κs. tt)
-    returns
-    loop-holds
-    (λ c κs. tt)
-    (λ c. omega arith)
-    shared-slice-copy-out-with-bitfield
-    (λ c κs. tt)
-    (λ c. search needs)
-    (λ c. search needs)
-    (λ c κs. tt)
-    returns-2
-    mul-columns
-    array-set-from-columns
-    (λ c. search needs)
-    (λ c. search needs)
-    loop-again
-    returns-3)
+    (tie.spec Inv-loop μ-loop (λ c κs. tt) (λ c κs. tt) (λ c κs. tt) returns loop-holds (λ c κs. tt) (λ c. omega arith)
+    shared-slice-copy-out-with-bitfield (λ c κs. tt) (λ c. search needs) (λ c. search needs) (λ c κs. tt) returns-2 mul-columns array-set-from-columns
+    (λ c. search needs) (λ c. search needs) loop-again returns-3)

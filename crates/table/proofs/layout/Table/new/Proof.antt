@@ -1,4 +1,3 @@
--- `Table::new` meets its contract.
 use Rattle.widths.proofs.Judged.{columns-refused, columns-passed}
 use Rattle.widths.proofs.Rows.{widths-refused, widths-given}
 use Rattle.table.specs.declared.layout.Table.{Table}

@@ -1,4 +1,3 @@
--- `Table::num_rows` meets its contract.
 use Rattle.widths.proofs.Rows.{places-refused, places-given}
 use lib.ListN.{length}
 use mathlib.Core.Path.{_≡_, sym}

@@ -1,4 +1,3 @@
--- `Table::read_cell` meets its contract.
 use Rattle.order.proofs.Cells.{inside}
 use Rattle.widths.specs.declared.places.Places.{Places}
 use Rattle.widths.specs.Places.{placesOutcome}
@@ -51,14 +50,5 @@ returns-3 c =
 pub read-cell-spec : {M : Type 1} → statement M
 read-cell-spec =
     tie.close
-    (tie.spec
-    (λ c κs. search needs)
-    (λ c. search needs)
-    returns
-    (λ c. search needs)
-    (λ c κs. search needs)
-    (λ c. search needs)
-    returns-2
-    (λ c. search needs)
-    cell-in-requires
-    returns-3)
+    (tie.spec (λ c κs. search needs) (λ c. search needs) returns (λ c. search needs) (λ c κs. search needs) (λ c. search needs) returns-2
+    (λ c. search needs) cell-in-requires returns-3)

@@ -1,4 +1,3 @@
--- `Table::read_rows` meets its contract.
 use Rattle.widths.specs.declared.places.Places.{Places}
 use Rattle.widths.specs.Places.{placesOutcome}
 use Rattle.widths.proofs.Rows.{places-refused, places-given}
@@ -43,12 +42,5 @@ returns-2 c =
 pub read-rows-spec : {M : Type 1} → statement M
 read-rows-spec =
     tie.close
-    (tie.spec
-    (λ c κs. search needs)
-    (λ c. search needs)
-    returns
-    (λ c. search needs)
-    read-found-requires
-    (λ c. search needs)
-    (λ c. search needs)
+    (tie.spec (λ c κs. search needs) (λ c. search needs) returns (λ c. search needs) read-found-requires (λ c. search needs) (λ c. search needs)
     returns-2)

@@ -1,4 +1,3 @@
--- `Table::write_rows` meets its contract.
 use Rattle.widths.proofs.Judged.{count-few, columns-refused, columns-passed}
 use Rattle.widths.proofs.Rows.{widths-refused, widths-given}
 use Rattle.widths.specs.declared.widths.Widths.{Widths}
@@ -46,11 +45,4 @@ returns-2 c =
 pub write-rows-spec : {M : Type 1} → statement M
 write-rows-spec =
     tie.close
-    (tie.spec
-    (λ c κs. search needs)
-    (λ c. search needs)
-    returns
-    (λ c. search needs)
-    write-judged-requires
-    (λ c. search needs)
-    returns-2)
+    (tie.spec (λ c κs. search needs) (λ c. search needs) returns (λ c. search needs) write-judged-requires (λ c. search needs) returns-2)

@@ -28,7 +28,7 @@ use Rattle.table.specs.Layout.{columnsOf, typesOf}
 use Rattle.table.specs.Rows.{cellAt, rowByRow}
 use Rattle.table.specs.Reading.{numRowsAnswer, readCellAnswer, readRowsOutcome}
 use Rattle.table.proofs.Grid.{length-grid, grid-at}
-use Rattle.rows.specs.Next.{another, none, cellsOf, nextOutcome}
+use Rattle.rows.specs.Next.{Next, another, none, cellsOf, nextOutcome}
 use Rattle.rows.specs.inner.Stopped.{stoppedAt}
 use Rattle.rows.specs.Promises.{SameCells}
 
@@ -53,10 +53,6 @@ module _ (t : Table) (s : List ℕ) (at rows : ℕ) (e : numRowsAnswer t s ≡ g
       let l = cells-length in
       rw (e, lt-ltb at (length (cellsOf t s rows)) (omega arith), q)
 
-  -- the place after it, however it is reckoned
-  pub step-to : (x : ℕ × ℤ) (j : ℕ) → at < rows * t .count → getD (cellsOf t s rows) at (0, pos 0) ≡ x → j ≡ at + 1 → (gives (another x), j) ≡ nextOutcome t s at
-  step-to x j h q e = rw e (sym (step-some x h q))
-
   module _ (p : 0 < t .count) where
     pub step-past : rows ≤ at / t .count → rows * t .count ≤ at
     step-past h = ⊎-elim (λ (q : at < rows * t .count). absurd (let d = div-lt-iff-lt-mul {x = at} {y = rows} p .1 q in omega arith)) (λ q. q) (lt-or-le at (rows * t .count))
@@ -65,6 +61,10 @@ module _ (t : Table) (s : List ℕ) (at rows : ℕ) (e : numRowsAnswer t s ≡ g
     step-cell h =
         let i : at ≡ at % t .count + at / t .count * t .count = omega (arith, div-add-mod' at (t .count)) in
         (div-lt-iff-lt-mul p .0 h, ap (λ (x : ℕ). getD (cellsOf t s rows) x (0, pos 0)) i ∙ grid-at g (0, pos 0) (t .count) rows (at / t .count) (at % t .count) h (mod-lt at p))
+
+-- the place after a step, however it is reckoned
+pub step-to : {o : Answer Next × ℕ} {x : Answer Next} {i j : ℕ} → o ≡ (x, i) → j ≡ i → (x, j) ≡ o
+step-to e q = rw q (sym e)
 
 pub step-refused : (t : Table) (s : List ℕ) (at n : ℕ) (p : Place) → refused n p ≡ numRowsAnswer t s → (refused n p, at) ≡ nextOutcome t s at
 step-refused t s at n p e = rw (← e)

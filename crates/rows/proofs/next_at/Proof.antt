@@ -1,10 +1,10 @@
-use Rattle.rows.proofs.Steps.{positive, read-some, read-none}
+use Rattle.rows.proofs.Steps.{positive, step-to, read-some, read-none}
 use Rattle.rows.specs.Next.{another, nextOutcome}
 use Rattle.cell.specs.Kinds.{cellAs}
 use Rattle.common.specs.Answers.{gives}
 use Prim.Native.Nat.{_+_, _<_}
 use native.Mathlib.Omega.{arith}
-use mathlib.Core.Path.{_≡_, sym, _∙_}
+use mathlib.Core.Path.{_≡_, _∙_}
 use borrow.Author.Needs.{needs}
 use Rattle.rows.proofs.next_at.Statement.{statement}
 use Rattle.rows.proofs.next_at.Tie as tie
@@ -27,7 +27,7 @@ returns-2 c =
     c .stopped .ensures ∙ read-none (a .table) (a .stream .now) (a .at) (positive _ (k .before .if1 .left)) _ _ (rw (c .before .before .read .given .1) at (k .read-cell .ensures))
 
 returns-3 : tie.Need-returns-3
-returns-3 c = sym (some c .0)
+returns-3 c = step-to (some c .0) (omega arith)
 
 pub next-at-spec : {M : Type 1} → statement M
 next-at-spec =

@@ -100,7 +100,7 @@ impl Cases {
         self.long_tables(emit);
     }
 
-    /// Short lists for crates/replay and crates/replay_tables, which a person can read: commands of at most 100 characters, on
+    /// Short lists for crates/replay, which a person can read: commands of at most 100 characters, on
     /// names and pools, or on columns and tables.
     pub fn short_list(&mut self, tables: bool, emit: &mut dyn FnMut(String)) {
         const NAMES: [&str; 9] = ["enc", "dec", "valid", "load", "take", "drop", "show", "count", "w"];

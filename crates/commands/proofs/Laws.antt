@@ -11,7 +11,7 @@ use lib.Seq.{drop-cons}
 use borrow.Author.Tests.{ltb-false, lt-ltb, le-ltb, le-leb, lt-leb}
 use Rattle.common.specs.Choice.{if_then_else_, _<?_, _=?_}
 use Rattle.common.specs.Lists.{_over_}
-use Rattle.commands.specs.Words.{byteAt, endsAt, run, digitOf, isDigit, valueOf, pairsIn, lesser, listed}
+use Rattle.commands.specs.Words.{byteAt, endsAt, run, digitOf, isDigit, valueOf, pairsIn, lesser, endOf, timesAt, product, pairOver, bytesOutcome, listed}
 
 -- ---- digits
 
@@ -32,16 +32,16 @@ digit-above b h = simp (le-leb 48 b (omega arith), lt-leb b 57 (omega arith), le
 
 -- ---- ends
 
-module _ (line : Bool) (s : List ℕ) (i : ℕ) where
-  pub run-stop : i < length s → endsAt line (getD s i 0) ≡ true → i ≡ i + run line (drop i s)
+module _ (upto : ℕ) (s : List ℕ) (i : ℕ) where
+  pub run-stop : i < length s → endsAt upto (getD s i 0) ≡ true → i ≡ i + run upto (drop i s)
   unfolding run
   run-stop h e = rw (drop-cons s i 0 h, e) (omega arith)
 
-  pub run-turn : i < length s → endsAt line (getD s i 0) ≡ false → i + run line (drop i s) ≡ i + 1 + run line (drop (i + 1) s)
+  pub run-turn : i < length s → endsAt upto (getD s i 0) ≡ false → i + run upto (drop i s) ≡ i + 1 + run upto (drop (i + 1) s)
   unfolding run
   run-turn h e = rw (drop-cons s i 0 h, e, add-one) (omega arith)
 
-  pub run-end : length s ≤ i → i ≡ i + run line (drop i s)
+  pub run-end : length s ≤ i → i ≡ i + run upto (drop i s)
   unfolding run
   run-end h = rw (drop-of-length-le s {i = i} h) (omega arith)
 
@@ -106,5 +106,20 @@ listed-end f k n h =
     let e : n - k ≡ 0 = omega arith in
     rw e refl
 
-pub stored : (f : ℕ → ℕ) (n m : ℕ) (out before : List ℕ) → n ≡ m → out ≡ listed f 0 n over before → _≡_ {A = ℕ × List ℕ} (n, out) (m, listed f 0 m over before)
-stored f n m out before e left = rw (left, e) refl
+pub stored : (s : List ℕ) (from end once times p n : ℕ) (out before : List ℕ) → end ≡ endOf s from 2 → once ≡ pairsIn s from end → times ≡ timesAt s end → p ≡ product once times → n ≡ lesser (length before) p → out ≡ listed (pairOver s from once) 0 n over before → _≡_ {A = ℕ × List ℕ} (n, out) (bytesOutcome s from before)
+stored s from end once times p n out before e o t q m left = rw (left, m, q, t, o, e) refl
+
+-- what a repetition asks of its parts, where one of its bytes is read
+pub some : (once times k n : ℕ) → k < n → n ≤ product once times → 0 < once
+some zero times k n h m = absurd (not-suc-le-zero (native.Mathlib.Nat.le-trans h (rw (none times) at m)))
+  where
+    none : (times : ℕ) → product 0 times ≡ 0
+    none times = go (4294967295 <? times)
+      where
+        go : (t : Bool) → (if t then 0 else 0 * times) ≡ 0
+        go true = refl
+        go false = native.Mathlib.Nat.zero-mul times
+some (suc once) times k n h m = omega arith
+
+pub product-fits : (a b : ℕ) → a ≤ 4294967295 → b ≤ 4294967295 → a * b < 18446744073709551616
+product-fits a b ha hb = omega (arith, native.Mathlib.Nat.mul-le-mul ha hb)

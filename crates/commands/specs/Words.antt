@@ -1,6 +1,6 @@
 -- Words of the command language in a text, by their places.
-use Prim.Native.Nat.{ℕ, zero, suc, _+_, _*_, _-_, _/_}
-use mathlib.Core.Bool.{Bool, _&&_, _||_, not}
+use Prim.Native.Nat.{ℕ, zero, suc, _+_, _*_, _-_, _/_, _%_}
+use mathlib.Core.Bool.{Bool, _&&_}
 use mathlib.Core.List.{List, [], _∷_}
 use lib.ListN.{length, drop, getD}
 use Rattle.common.specs.Choice.{if_then_else_, _<?_, _≤?_, _=?_}
@@ -10,17 +10,20 @@ use Rattle.common.specs.Lists.{_over_}
 abbrev pub byteAt : List ℕ → ℕ → ℕ
 byteAt s i = getD s i 0
 
--- a new line ends a word and a line, a space a word alone
-abbrev pub endsAt : Bool → ℕ → Bool
-endsAt line b = (b =? 10) || (not line && (b =? 32))
+-- what a byte ends at most: 5 a line, 4 a word, 3 an item of a list, 2 what is repeated, 1 a kind
+abbrev pub rankOf : ℕ → ℕ
+rankOf b = if b =? 10 then 5 else if b =? 32 then 4 else if b =? 44 then 3 else if b =? 42 then 2 else if b =? 58 then 1 else 0
+
+abbrev pub endsAt : ℕ → ℕ → Bool
+endsAt upto b = upto ≤? rankOf b
 
 -- how many bytes come before an end
-unfoldable pub run : Bool → List ℕ → ℕ
-run line [] = 0
-run line (b ∷ s) = if endsAt line b then 0 else suc (run line s)
+unfoldable pub run : ℕ → List ℕ → ℕ
+run upto [] = 0
+run upto (b ∷ s) = if endsAt upto b then 0 else suc (run upto s)
 
-abbrev pub endOf : List ℕ → ℕ → Bool → ℕ
-endOf s at line = at + run line (drop at s)
+abbrev pub endOf : List ℕ → ℕ → ℕ → ℕ
+endOf s at upto = at + run upto (drop at s)
 
 abbrev pub afterEnd : List ℕ → ℕ → ℕ
 afterEnd s end = if end <? length s then end + 1 else end
@@ -43,12 +46,6 @@ unfoldable pub listed : (ℕ → ℕ) → ℕ → ℕ → List ℕ
 listed f k zero = []
 listed f k (suc n) = f k ∷ listed f (suc k) n
 
--- the bytes of a word, as many as there is room for
-abbrev pub bytesOutcome : List ℕ → ℕ → ℕ → List ℕ → ℕ × List ℕ
-bytesOutcome s from to out =
-    let n = lesser (length out) (pairsIn s from to) in
-    (n, listed (pairAt s from) 0 n over out)
-
 abbrev pub isDigit : ℕ → Bool
 isDigit b = (48 ≤? b) && (b ≤? 57)
 
@@ -59,3 +56,23 @@ valueOf sum (b ∷ s) = if isDigit b then (if 999999999 <? sum then 0 else value
 
 abbrev pub digitsAt : List ℕ → ℕ → ℕ
 digitsAt s from = valueOf 0 (drop from s)
+
+-- how often what ends at a place stands: the number behind a star, or once
+abbrev pub timesAt : List ℕ → ℕ → ℕ
+timesAt s end = if byteAt s end =? 42 then digitsAt s (afterEnd s end) else 1
+
+-- 0 where one of the two has more than 32 bits
+abbrev pub product : ℕ → ℕ → ℕ
+product a b = if 4294967295 <? a then 0 else if 4294967295 <? b then 0 else a * b
+
+-- the k-th byte of a word whose pairs stand over and over
+abbrev pub pairOver : List ℕ → ℕ → ℕ → ℕ → ℕ
+pairOver s from once k = pairAt s from (k % once)
+
+-- the bytes of a word, HEX or HEX*N, as many as there is room for
+abbrev pub bytesOutcome : List ℕ → ℕ → List ℕ → ℕ × List ℕ
+bytesOutcome s from out =
+    let end = endOf s from 2 in
+    let once = pairsIn s from end in
+    let n = lesser (length out) (product once (timesAt s end)) in
+    (n, listed (pairOver s from once) 0 n over out)

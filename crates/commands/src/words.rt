@@ -3,7 +3,18 @@
 ghost use mathlib.Core.Path.{_≡_};
 ghost use lib.ListN.{take};
 ghost use Prim.Native.Nat.{_+_, _*_, _≤_, _<_};
-ghost use Rattle.commands.specs.Words.{byteAt, endsAt, endOf, afterEnd, digitOf, pairAt, pairsIn, bytesOutcome, lesser, isDigit, digitsAt};
+ghost use Rattle.commands.specs.Words.{byteAt, rankOf, endsAt, endOf, afterEnd, digitOf, pairAt, pairsIn, timesAt, product, bytesOutcome, lesser, isDigit, digitsAt};
+
+// How far a reading goes: to the end of the line, of the word, of the item of a list, to the mark of a repetition, or to a colon.
+pub const LINE: u8 = 5;
+
+pub const WORD: u8 = 4;
+
+pub const ITEM: u8 = 3;
+
+pub const TIMES: u8 = 2;
+
+pub const KIND: u8 = 1;
 
 pub fn byte(s: &[u8], i: usize) -> u8
     ensures { λ r. ⌜ r ≡ byteAt (now (s .entry)) i ⌝ }
@@ -14,25 +25,42 @@ pub fn byte(s: &[u8], i: usize) -> u8
     0
 }
 
-fn ends(b: u8, line: bool) -> bool
-    ensures { λ r. ⌜ r ≡ endsAt line b ⌝ }
+// What a byte ends at most: a new line ends a line and all within it, a space a word, a comma an item, a star what is repeated, a
+// colon a kind.
+fn rank(b: u8) -> u8
+    ensures { λ r. ⌜ r ≡ rankOf b ⌝ }
 {
     if b == b'\n' {
-        return true;
+        return LINE;
     }
-    if line {
-        return false;
+    if b == b' ' {
+        return WORD;
     }
-    b == b' '
+    if b == b',' {
+        return ITEM;
+    }
+    if b == b'*' {
+        return TIMES;
+    }
+    if b == b':' {
+        return KIND;
+    }
+    0
 }
 
-// Where the word, or with `line` the line, ends that begins at `at`.
-pub fn end_of(s: &[u8], at: usize, line: bool) -> usize
-    ensures { λ r. ⌜ r ≡ endOf (now (s .entry)) at line ⌝ }
+fn ends(b: u8, upto: u8) -> bool
+    ensures { λ r. ⌜ r ≡ endsAt upto b ⌝ }
+{
+    upto <= rank(b)
+}
+
+// Where what begins at `at` ends.
+pub fn end_of(s: &[u8], at: usize, upto: u8) -> usize
+    ensures { λ r. ⌜ r ≡ endOf (now (s .entry)) at upto ⌝ }
 {
     let mut i = at;
     while i < s.len() {
-        if ends(s[i], line) {
+        if ends(s[i], upto) {
             return i;
         }
         i += 1;
@@ -91,14 +119,39 @@ fn fewer(a: usize, b: usize) -> usize
     b
 }
 
-// The bytes of a word of hexadecimal digits, as many as there is room for: how many those are.
-pub fn bytes_in(s: &[u8], from: usize, to: usize, out: &mut [u8]) -> usize
-    ensures { λ r. ⌜ (r, now (out .exit)) ≡ bytesOutcome (now (s .entry)) from to (now (out .entry)) ⌝ }
+// How often what ends at `end` stands: the number behind a star, or once.
+pub(crate) fn times_at(s: &[u8], end: usize) -> u64
+    ensures { λ r. ⌜ r ≡ timesAt (now (s .entry)) end ⌝ }
 {
-    let n = fewer(out.len(), pairs(s, from, to));
+    if byte(s, end) == b'*' {
+        return number_at(s, after(s, end));
+    }
+    1
+}
+
+// 0 where one of the two has more than 32 bits.
+pub fn product(a: usize, b: u64) -> usize
+    ensures { λ r. ⌜ r ≡ product a b ⌝ }
+{
+    if a > 4_294_967_295 {
+        return 0;
+    }
+    if b > 4_294_967_295 {
+        return 0;
+    }
+    a * b as usize
+}
+
+// The bytes of a word of hexadecimal digits, `HEX` or `HEX*N`, as many as there is room for: how many those are.
+pub fn bytes_in(s: &[u8], from: usize, out: &mut [u8]) -> usize
+    ensures { λ r. ⌜ (r, now (out .exit)) ≡ bytesOutcome (now (s .entry)) from (now (out .entry)) ⌝ }
+{
+    let end = end_of(s, from, TIMES);
+    let once = pairs(s, from, end);
+    let n = fewer(out.len(), product(once, times_at(s, end)));
     let mut k = 0;
     while k < n {
-        out[k] = pair(s, from, k);
+        out[k] = pair(s, from, k % once);
         k += 1;
     }
     n
@@ -146,4 +199,23 @@ fn value(b: u8) -> u64
     ensures { λ r. ⌜ (r ≡ digitOf b) × (r ≤ 15) ⌝ }
 {
     digit(b) as u64
+}
+
+// The place of the next word.
+pub fn next(s: &[u8], at: usize) -> usize
+    ensures { λ r. ⌜ r ≡ afterEnd (now (s .entry)) (endOf (now (s .entry)) at 4) ⌝ }
+{
+    after(s, end_of(s, at, WORD))
+}
+
+// Whether the word at `at` is `name`.
+pub fn is(s: &[u8], at: usize, name: &[u8]) -> bool {
+    let mut place = at;
+    for i in 0..name.len() {
+        if byte(s, place) != name[i] {
+            return false;
+        }
+        place = after(s, place);
+    }
+    place == end_of(s, at, WORD)
 }

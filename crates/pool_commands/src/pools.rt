@@ -1,0 +1,148 @@
+// Commands on the pool.
+use commands::numbers;
+use commands::shown;
+use commands::words::bytes_in;
+use commands::words::front;
+use commands::words::next;
+use room_commands::Desk;
+use stringpool::Counted;
+use stringpool::Pooled;
+use stringpool::StringPool;
+use stringpool::Taken;
+
+pub(crate) fn state(pool: StringPool) {
+    shown::say(b"ok ");
+    shown::number(pool.codepage as usize);
+    shown::say(b" ");
+    shown::flag(pool.long_string_refs);
+    shown::say(b" ");
+    shown::number(pool.num_strings);
+}
+
+fn pooled(answer: Pooled, desk: Desk) -> Desk {
+    match answer {
+        Pooled::Is(made) => {
+            shown::say(b"ok");
+            desk.with_pool(made)
+        }
+        Pooled::Refused(why) => {
+            shown::refused(why);
+            desk
+        }
+    }
+}
+
+pub(crate) fn new(s: &[u8], at: usize, desk: Desk) -> Desk {
+    pooled(StringPool::new(numbers::count_at(s, at)), desk)
+}
+
+pub(crate) fn page(
+    s: &[u8],
+    at: usize,
+    desk: Desk,
+    lengths: &[u32],
+    counts: &[u16],
+    text: &[u8],
+) -> Desk {
+    let pool = desk.pool;
+    pooled(
+        pool.set_codepage(lengths, counts, text, numbers::count_at(s, at)),
+        desk,
+    )
+}
+
+pub(crate) fn load(
+    s: &[u8],
+    at: usize,
+    desk: Desk,
+    lengths: &mut [u32],
+    counts: &mut [u16],
+    text: &mut [u8],
+) -> Desk {
+    let mut stream = [0u8; 300000];
+    let mut data = [0u8; 140000];
+    let n = bytes_in(s, at, &mut stream);
+    let m = bytes_in(s, next(s, at), &mut data);
+    let answer = StringPool::load(front(&stream, n), front(&data, m), lengths, counts, text);
+    match answer {
+        Pooled::Is(made) => {
+            state(made);
+            desk.with_pool(made)
+        }
+        Pooled::Refused(why) => {
+            shown::refused(why);
+            desk
+        }
+    }
+}
+
+pub(crate) fn take(
+    s: &[u8],
+    at: usize,
+    desk: Desk,
+    lengths: &mut [u32],
+    counts: &mut [u16],
+    text: &mut [u8],
+) -> Desk {
+    let mut new = [0u8; 140000];
+    let n = bytes_in(s, at, &mut new);
+    let pool = desk.pool;
+    let answer = pool.incref(lengths, counts, text, front(&new, n));
+    match answer {
+        Taken::Ref(taken, after) => {
+            shown::say(b"ok ");
+            numbers::show(taken.0);
+            desk.with_pool(after)
+        }
+        Taken::Refused(why) => {
+            shown::refused(why);
+            desk
+        }
+    }
+}
+
+pub(crate) fn dropped(answer: Pooled, desk: Desk) -> Desk {
+    match answer {
+        Pooled::Is(after) => {
+            shown::say(b"ok");
+            desk.with_pool(after)
+        }
+        Pooled::Refused(why) => {
+            shown::refused(why);
+            desk
+        }
+    }
+}
+
+pub(crate) fn drop(
+    s: &[u8],
+    at: usize,
+    desk: Desk,
+    lengths: &mut [u32],
+    counts: &mut [u16],
+    text: &mut [u8],
+) -> Desk {
+    let pool = desk.pool;
+    dropped(
+        pool.decref(lengths, counts, text, numbers::signed_at(s, at)),
+        desk,
+    )
+}
+
+pub(crate) fn count(
+    s: &[u8],
+    at: usize,
+    pool: StringPool,
+    lengths: &[u32],
+    counts: &[u16],
+    text: &[u8],
+) {
+    let answer = pool.refcount(lengths, counts, text, numbers::signed_at(s, at));
+    match answer {
+        Counted::Is(n) => {
+            shown::say(b"ok ");
+            shown::number(n as usize);
+        }
+        Counted::Refused(why) => shown::refused(why),
+    }
+}

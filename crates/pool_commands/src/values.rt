@@ -1,0 +1,212 @@
+// Commands on values: what the pool has for a text, and what it shows of a reference.
+use crate::pools::dropped;
+use cell::Value;
+use cell::ValueRef;
+use commands::kept;
+use commands::lists::Cell;
+use commands::lists::cell_at;
+use commands::numbers;
+use commands::places;
+use commands::shown;
+use commands::words::after;
+use commands::words::bytes_in;
+use commands::words::front;
+use common::Refusal;
+use common::StringRef;
+use pool_values::Created;
+use pool_values::Shown;
+use room_commands::Desk;
+use stringpool::Showable;
+use stringpool::StringPool;
+
+// The answer to a kind that there is not, of a pool that is sound.
+fn unknown(pool: StringPool, lengths: &[u32], counts: &[u16], text: &[u8]) {
+    let judged = pool_values::to_value(ValueRef::Null, pool, lengths, counts, text);
+    match judged {
+        Shown::Value(_) => shown::say(b"error 16"),
+        Shown::Refused(why) => shown::refused(why),
+    }
+}
+
+fn value_of(cell: Cell) -> Value {
+    let number = cell.number;
+    let kind = cell.kind;
+    match kind {
+        0 => Value::Null,
+        1 => Value::Int(number),
+        2 => Value::Str,
+        _ => Value::Binary,
+    }
+}
+
+fn reference_of(cell: Cell) -> ValueRef {
+    let number = cell.number;
+    let kind = cell.kind;
+    match kind {
+        0 => ValueRef::Null,
+        1 => ValueRef::Int(number),
+        2 => ValueRef::Str(StringRef(number)),
+        _ => ValueRef::Binary,
+    }
+}
+
+pub(crate) fn create(
+    s: &[u8],
+    at: usize,
+    desk: Desk,
+    lengths: &mut [u32],
+    counts: &mut [u16],
+    text: &mut [u8],
+) -> Desk {
+    let cell = cell_at(s, at);
+    let pool = desk.pool;
+    if cell.kind > 3 {
+        unknown(pool, lengths, counts, text);
+        return desk;
+    }
+    let mut new = [0u8; 140000];
+    let n = bytes_in(s, after(s, at), &mut new);
+    let answer = pool_values::create(value_of(cell), front(&new, n), pool, lengths, counts, text);
+    match answer {
+        Created::Value(made, after) => {
+            shown::say(b"ok ");
+            shown::cell(made.kind(), made.number());
+            desk.with_pool(after)
+        }
+        Created::Refused(why) => {
+            shown::refused(why);
+            desk
+        }
+    }
+}
+
+pub(crate) fn remove(
+    s: &[u8],
+    at: usize,
+    desk: Desk,
+    lengths: &mut [u32],
+    counts: &mut [u16],
+    text: &mut [u8],
+) -> Desk {
+    let cell = cell_at(s, at);
+    let pool = desk.pool;
+    if cell.kind > 3 {
+        unknown(pool, lengths, counts, text);
+        return desk;
+    }
+    dropped(
+        pool_values::remove(reference_of(cell), pool, lengths, counts, text),
+        desk,
+    )
+}
+
+fn found_out(found: &[u8], as_value: bool) {
+    shown::say(b"ok ");
+    if as_value {
+        shown::text(found);
+        return;
+    }
+    shown::bytes(found);
+}
+
+// A text that was found, by way of an output.
+fn shows(found: &[u8], as_value: bool, desk: Desk, out: &mut [u8]) -> Desk {
+    let n = places::bytes(out, desk.output(found.len()));
+    kept::fill(&mut out[..n]);
+    if n < found.len() {
+        shown::refused(Refusal::OutputRoom);
+        return desk.leaves(n, 1);
+    }
+    kept::bytes(found, out);
+    found_out(found, as_value);
+    desk.leaves(n, 1)
+}
+
+// An output that a refused call left.
+fn untouched(desk: Desk, out: &mut [u8]) -> Desk {
+    let n = places::bytes(out, desk.output(0));
+    kept::fill(&mut out[..n]);
+    desk.leaves(n, 1)
+}
+
+pub(crate) fn show(
+    s: &[u8],
+    at: usize,
+    desk: Desk,
+    lengths: &[u32],
+    counts: &[u16],
+    text: &[u8],
+    out: &mut [u8],
+) -> Desk {
+    let number = numbers::signed_at(s, at);
+    let pool = desk.pool;
+    let answer = pool.get_refusal(lengths, counts, text, number);
+    match answer {
+        Showable::Yes => shows(pool.get(lengths, counts, text, number), false, desk, out),
+        Showable::Refused(why) => {
+            shown::refused(why);
+            untouched(desk, out)
+        }
+    }
+}
+
+// A value that is no text leaves no output.
+fn plain(value: Value) {
+    match value {
+        Value::Null => shown::say(b"ok n"),
+        Value::Int(number) => {
+            shown::say(b"ok i");
+            numbers::show(number);
+        }
+        Value::Str => shown::say(b"ok t"),
+        Value::Binary => shown::say(b"ok b"),
+    }
+}
+
+fn valued(
+    cell: Cell,
+    desk: Desk,
+    lengths: &[u32],
+    counts: &[u16],
+    text: &[u8],
+    out: &mut [u8],
+) -> Desk {
+    let pool = desk.pool;
+    let reference = reference_of(cell);
+    let answer = pool_values::to_value(reference, pool, lengths, counts, text);
+    match answer {
+        Shown::Value(value) => {
+            if cell.kind == 2 {
+                return shows(
+                    pool_values::to_text(reference, pool, lengths, counts, text),
+                    true,
+                    desk,
+                    out,
+                );
+            }
+            plain(value);
+            desk
+        }
+        Shown::Refused(why) => {
+            shown::refused(why);
+            desk
+        }
+    }
+}
+
+pub(crate) fn value(
+    s: &[u8],
+    at: usize,
+    desk: Desk,
+    lengths: &[u32],
+    counts: &[u16],
+    text: &[u8],
+    out: &mut [u8],
+) -> Desk {
+    let cell = cell_at(s, at);
+    if cell.kind > 3 {
+        unknown(desk.pool, lengths, counts, text);
+        return desk;
+    }
+    valued(cell, desk, lengths, counts, text, out)
+}

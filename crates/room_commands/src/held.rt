@@ -1,0 +1,120 @@
+// What the rooms and the last output hold.
+use crate::ALL;
+use crate::Desk;
+use commands::kept;
+use commands::numbers::count_at;
+use commands::places;
+use commands::shown;
+use commands::shown::Form;
+use commands::words::LINE;
+use commands::words::WORD;
+use commands::words::byte;
+use commands::words::end_of;
+use commands::words::front;
+use commands::words::next;
+use commands::words::product;
+ghost use Prim.Native.Nat.{_≤_};
+
+// Where the last `most` of `n` places start.
+fn start(n: usize, most: usize) -> usize
+    ensures { λ r. ⌜ r ≤ n ⌝ }
+{
+    if n < most {
+        return 0;
+    }
+    n - most
+}
+
+fn lengths_out(room: &[u32], most: usize) {
+    let mut bytes = [0u8; 262400];
+    let from = start(room.len(), most);
+    let n = kept::lengths(&room[from..], &mut bytes);
+    let m = places::bytes(&bytes, n);
+    shown::list(&bytes[..m], Form::Length);
+}
+
+fn counts_out(room: &[u16], most: usize) {
+    let mut bytes = [0u8; 131200];
+    let from = start(room.len(), most);
+    let n = kept::units(&room[from..], &mut bytes);
+    let m = places::bytes(&bytes, n);
+    shown::list(&bytes[..m], Form::Count);
+}
+
+// The last bytes of a list.
+fn last(list: &[u8], most: usize) {
+    let from = start(list.len(), most);
+    shown::bytes(&list[from..]);
+}
+
+fn one_byte(kinds: &[u8], numbers: &[u8]) -> bool {
+    if byte(kinds, 0) != byte(numbers, 0) {
+        return false;
+    }
+    if shown::same(kinds, 1) {
+        return shown::same(numbers, 1);
+    }
+    false
+}
+
+// The kinds of cells, then their numbers, in one word.
+fn cells(kinds: &[u8], numbers: &[u8]) {
+    if kinds.len() == 0 {
+        shown::say(b"-");
+        return;
+    }
+    let bytes = product(kinds.len(), 5);
+    if shown::is_long(bytes, one_byte(kinds, numbers)) {
+        shown::plain(front(kinds, 1));
+        shown::times(bytes);
+        return;
+    }
+    shown::plain(kinds);
+    shown::plain(numbers);
+}
+
+fn last_cells(kinds: &[u8], numbers: &[u8], most: usize) {
+    let k = start(kinds.len(), most);
+    let n = start(numbers.len(), product(most, 4));
+    cells(&kinds[k..], &numbers[n..]);
+}
+
+fn output(desk: Desk, out: &[u8], most: usize) {
+    let left = desk.left;
+    let n = places::bytes(out, left);
+    if desk.width == 5 {
+        let k = places::bytes(out, n / 5);
+        let m = start(n, product(k, 4));
+        last_cells(&out[..k], &out[m..n], most);
+        return;
+    }
+    last(&out[..n], product(most, desk.width as u64));
+}
+
+fn most_at(s: &[u8], at: usize) -> usize {
+    if end_of(s, at, WORD) == end_of(s, at, LINE) {
+        return ALL;
+    }
+    count_at(s, next(s, at)) as usize
+}
+
+// `held`, `held N`
+pub fn held(
+    s: &[u8],
+    at: usize,
+    desk: Desk,
+    lengths: &[u32],
+    counts: &[u16],
+    text: &[u8],
+    out: &[u8],
+) {
+    let most = most_at(s, at);
+    shown::say(b"ok ");
+    lengths_out(lengths, most);
+    shown::say(b" ");
+    counts_out(counts, most);
+    shown::say(b" ");
+    last(text, most);
+    shown::say(b" ");
+    output(desk, out, most);
+}

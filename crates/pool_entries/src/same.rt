@@ -98,11 +98,11 @@ pub(crate) fn equal_at(count: u16, text: &[u8], at: usize, new: &[u8], word: u64
     ensures { λ r. ⌜ (at + length (now (new .entry)) ≤ length (now (text .entry))
         → r ≡ equal (now (new .entry)) (entry (take (length (now (new .entry))) (drop at (now (text .entry)))) count)) ⌝ }
 {
+    if !may_be(text, at, new.len(), word) {
+        return false;
+    }
     if count >= 65535 {
         return false;
     }
-    if may_be(text, at, new.len(), word) {
-        return same(&text[at..at + new.len()], new);
-    }
-    false
+    same(&text[at..at + new.len()], new)
 }

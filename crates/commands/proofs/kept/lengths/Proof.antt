@@ -4,9 +4,6 @@ use lib.ListN.{length}
 use Prim.Native.Nat.{_-_, _≤_}
 use Rattle.commands.proofs.kept.lengths.Statement.{statement}
 use Rattle.commands.proofs.kept.lengths.Tie as tie
-use Rattle.commands.proofs.kept.lengths.Reads as reads
-use Rattle.commands.proofs.kept.lengths.Lts as lts
-use Rattle.commands.proofs.kept.four.Reads as four-reads
 
 abbrev Inv-loop : tie.InvT-loop
 Inv-loop list out₀ at₀ i₀ i-end out at i = (length out ≡ length out₀) × (at ≤ length out) × (i-end ≡ length list)
@@ -14,74 +11,8 @@ Inv-loop list out₀ at₀ i₀ i-end out at i = (length out ≡ length out₀) 
 abbrev μ-loop : tie.MeasureT-loop
 μ-loop list out₀ at₀ i₀ i-end out at i = i-end - i
 
--- src/kept.rt:55:5
-loop-holds : tie.Need-loop-holds Inv-loop μ-loop
-loop-holds c = search needs
-
--- src/kept.rt:56:12
-sub-if1 : tie.Need-sub-if1 Inv-loop μ-loop
-sub-if1 c = search needs
-
--- src/kept.rt:57:13
-same-length : tie.Need-same-length Inv-loop μ-loop
-same-length c = search needs
-
--- src/kept.rt:57:13
-returns : tie.Need-returns Inv-loop μ-loop
-returns c = search needs
-
--- src/kept.rt:59:23
-mul-four : tie.Need-mul-four Inv-loop μ-loop
-mul-four c = search needs
-
--- src/kept.rt:59:23
-shared-slice-read-four : tie.Need-shared-slice-read-four Inv-loop μ-loop
-shared-slice-read-four c = search needs
-
--- src/kept.rt:59:9
-four-requires : tie.Need-four-requires Inv-loop μ-loop
-four-requires c κs = search needs
-
--- src/kept.rt:60:9
-add-at : tie.Need-add-at Inv-loop μ-loop
-add-at c = search needs
-
--- src/kept.rt:55:9
-add-i : tie.Need-add-i Inv-loop μ-loop
-add-i c = search needs
-
--- src/kept.rt:55:5
-loop-less : tie.Need-loop-less Inv-loop μ-loop
-loop-less c = search needs
-
--- src/kept.rt:55:5
-loop-again : tie.Need-loop-again Inv-loop μ-loop
-loop-again c = search needs
-
--- src/kept.rt:51:1
-same-length-2 : tie.Need-same-length-2 Inv-loop μ-loop
-same-length-2 c = search needs
-
--- src/kept.rt:51:1
-returns-2 : tie.Need-returns-2 Inv-loop μ-loop
-returns-2 c = search needs
-
 pub lengths-spec : {M : Type 1} → statement M
 lengths-spec =
     tie.close
-    (tie.spec
-    Inv-loop
-    μ-loop
-    loop-holds
-    sub-if1
-    same-length
-    returns
-    mul-four
-    shared-slice-read-four
-    four-requires
-    add-at
-    add-i
-    loop-less
-    loop-again
-    same-length-2
-    returns-2)
+    (tie.spec Inv-loop μ-loop (λ c. search needs) (λ c. search needs) (λ c. search needs) (λ c. search needs) (λ c. search needs) (λ c. search needs)
+    (λ c κs. search needs) (λ c. search needs) (λ c. search needs) (λ c. search needs) (λ c. search needs) (λ c. search needs) (λ c. search needs))

@@ -3,17 +3,9 @@ use lib.Seq.{length-take-le}
 use borrow.Author.Needs.{needs}
 use Rattle.commands.proofs.places.numbers.Statement.{statement}
 use Rattle.commands.proofs.places.numbers.Tie as tie
-use Rattle.commands.proofs.places.numbers.Reads as reads
-use Rattle.commands.proofs.places.numbers.Lts as lts
-use Rattle.commands.proofs.places.fewer.Reads as fewer-reads
 
--- src/places.rt:37:5
-fewer-requires : tie.Need-fewer-requires
-fewer-requires c κs = search needs
-
--- src/places.rt:34:1
 returns : tie.Need-returns
 returns c = (c .fewer .ensures .0, sym (length-take-le _ _ (c .fewer .ensures .0)))
 
 pub numbers-spec : {M : Type 1} → statement M
-numbers-spec = tie.close (tie.spec fewer-requires returns)
+numbers-spec = tie.close (tie.spec (λ c κs. search needs) returns)

@@ -3,17 +3,9 @@ use lib.Seq.{length-take-le}
 use borrow.Author.Needs.{needs}
 use Rattle.commands.proofs.places.units.Statement.{statement}
 use Rattle.commands.proofs.places.units.Tie as tie
-use Rattle.commands.proofs.places.units.Reads as reads
-use Rattle.commands.proofs.places.units.Lts as lts
-use Rattle.commands.proofs.places.fewer.Reads as fewer-reads
 
--- src/places.rt:25:5
-fewer-requires : tie.Need-fewer-requires
-fewer-requires c κs = search needs
-
--- src/places.rt:22:1
 returns : tie.Need-returns
 returns c = (c .fewer .ensures .0, sym (length-take-le _ _ (c .fewer .ensures .0)))
 
 pub units-spec : {M : Type 1} → statement M
-units-spec = tie.close (tie.spec fewer-requires returns)
+units-spec = tie.close (tie.spec (λ c κs. search needs) returns)

@@ -14,9 +14,6 @@ Inv-loop s at upto i₀ i = at + run upto (drop at s) ≡ i + run upto (drop i s
 abbrev μ-loop : tie.MeasureT-loop
 μ-loop s at upto i₀ i = length s - i
 
-loop-holds : tie.Need-loop-holds Inv-loop μ-loop
-loop-holds c = refl
-
 returns : tie.Need-returns Inv-loop μ-loop
 returns c = run-stop (c .before .before .before .before .before .before .args .upto) (now (c .before .before .before .before .before .before .args .s)) (c .before .before .before .before .loop .i) (c .before .before .before .loop-test .taken) (sym (c .before .ends .ensures) ∙ c .if1 .taken) ∙ sym (c .before .before .before .before .loop .inv)
 
@@ -29,5 +26,5 @@ returns-2 c = run-end (c .before .before .before .args .upto) (now (c .before .b
 pub end-of-spec : {M : Type 1} → statement M
 end-of-spec =
     tie.close
-    (tie.spec Inv-loop μ-loop loop-holds (λ c. search needs) (λ c κs. search needs) returns (λ c. search needs) (λ c. search needs) loop-again
+    (tie.spec Inv-loop μ-loop (λ c. refl) (λ c. search needs) (λ c κs. search needs) returns (λ c. search needs) (λ c. search needs) loop-again
     returns-2)

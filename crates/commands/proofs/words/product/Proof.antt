@@ -2,22 +2,16 @@ use borrow.Author.Tests.{lt-ltb, le-ltb}
 use Rattle.commands.proofs.Laws.{product-fits}
 use Rattle.commands.proofs.words.product.Statement.{statement}
 use Rattle.commands.proofs.words.product.Tie as tie
-use Rattle.commands.proofs.words.product.Reads as reads
-use Rattle.commands.proofs.words.product.Lts as lts
 
--- src/words.rt:131:9
 returns : tie.Need-returns
 returns c = simp (lt-ltb _ _ (c .if1 .taken))
 
--- src/words.rt:134:9
 returns-2 : tie.Need-returns-2
 returns-2 c = simp (le-ltb _ _ (c .before .if1 .left), lt-ltb _ _ (c .if2 .taken))
 
--- src/words.rt:136:5
 mul-result : tie.Need-mul-result
 mul-result c = record { fits = product-fits _ _ (c .before .if1 .left) (c .if2 .left) }
 
--- src/words.rt:127:1
 returns-3 : tie.Need-returns-3
 returns-3 c = simp (le-ltb _ _ (c .before .if1 .left), le-ltb _ _ (c .if2 .left))
 

@@ -65,6 +65,10 @@ timesAt s end = if byteAt s end =? 42 then digitsAt s (afterEnd s end) else 1
 abbrev pub product : ℕ → ℕ → ℕ
 product a b = if 4294967295 <? a then 0 else if 4294967295 <? b then 0 else a * b
 
+-- how many bytes a word has, HEX or HEX*N
+abbrev pub bytesAt : List ℕ → ℕ → ℕ
+bytesAt s from = product (pairsIn s from (endOf s from 2)) (timesAt s (endOf s from 2))
+
 -- the k-th byte of a word whose pairs stand over and over
 abbrev pub pairOver : List ℕ → ℕ → ℕ → ℕ → ℕ
 pairOver s from once k = pairAt s from (k % once)

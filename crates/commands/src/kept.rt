@@ -27,6 +27,7 @@ fn two(out: &mut [u8], at: usize, n: u32)
     out[at + 1] = (n / 256 % 256) as u8;
 }
 
+// What 16 bits hold is known of an argument, not of a place of a list.
 fn wide(unit: u16) -> u32 {
     unit as u32
 }
@@ -45,28 +46,6 @@ pub fn units(list: &[u16], out: &mut [u8]) -> usize
     at
 }
 
-fn four(out: &mut [u8], at: usize, n: u32)
-    requires { ⌜ at + 4 ≤ length (now out) ⌝ }
-    ensures { λ r. ⌜ length (now (out .exit)) ≡ length (now (out .entry)) ⌝ }
-{
-    two(out, at, n % 65536);
-    two(out, at + 2, n / 65536);
-}
-
-pub fn lengths(list: &[u32], out: &mut [u8]) -> usize
-    ensures { λ r. ⌜ (r ≤ length (now (out .exit))) × (length (now (out .exit)) ≡ length (now (out .entry))) ⌝ }
-{
-    let mut at = 0;
-    for i in 0..list.len() {
-        if out.len() - at < 4 {
-            return at;
-        }
-        four(out, at, list[i]);
-        at += 4;
-    }
-    at
-}
-
 pub fn numbers(list: &[i32], out: &mut [u8]) -> usize
     ensures { λ r. ⌜ (r ≤ length (now (out .exit))) × (length (now (out .exit)) ≡ length (now (out .entry))) ⌝ }
 {
@@ -75,7 +54,9 @@ pub fn numbers(list: &[i32], out: &mut [u8]) -> usize
         if out.len() - at < 4 {
             return at;
         }
-        four(out, at, numbers::bits(list[i]));
+        let n = numbers::bits(list[i]);
+        two(out, at, n % 65536);
+        two(out, at + 2, n / 65536);
         at += 4;
     }
     at

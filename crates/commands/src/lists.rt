@@ -7,7 +7,6 @@ use crate::words::WORD;
 use crate::words::after;
 use crate::words::byte;
 use crate::words::end_of;
-use crate::words::number_at;
 use crate::words::times_at;
 ghost use Prim.Native.Nat.{_≤_};
 ghost use lib.ListN.{length};
@@ -61,28 +60,6 @@ pub fn nth(s: &[u8], at: usize, n: usize) -> usize {
         before -= 1;
     }
     item.at
-}
-
-// The numbers of a list: how many there are, and as many as `out` has places where one of them is above `most`.
-pub fn numbers_in(s: &[u8], at: usize, most: u64, out: &mut [u32]) -> usize
-    ensures { λ r. ⌜ r ≤ length (now (out .exit)) ⌝ }
-{
-    let end = end_of(s, at, WORD);
-    let mut item = first(s, at);
-    let mut n = 0;
-    while n < out.len() {
-        let place = item.at;
-        if place >= end {
-            return n;
-        }
-        if number_at(s, place) > most {
-            return out.len();
-        }
-        out[n] = numbers::count_at(s, place);
-        item = next(s, item);
-        n += 1;
-    }
-    n
 }
 
 // A cell as it is handed over.

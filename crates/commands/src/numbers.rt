@@ -45,7 +45,9 @@ pub fn count_at(s: &[u8], at: usize) -> u32 {
     n as u32
 }
 
-pub fn show(n: i32) {
+pub fn show(n: i32)
+    ensures { λ r. ⌜ r ≡ tt ⌝ }
+{
     let u = bias(n);
     if u < 2147483648 {
         shown::say(b"-");
@@ -57,9 +59,5 @@ pub fn show(n: i32) {
 
 // The 32 bits of a signed number.
 pub(crate) fn bits(n: i32) -> u32 {
-    let u = bias(n);
-    if u < 2147483648 {
-        return (u + 2147483648) as u32;
-    }
-    ((u - 2147483648) % 4294967296) as u32
+    ((bias(n) % 4294967296 + 2147483648) % 4294967296) as u32
 }

@@ -29,61 +29,37 @@ pub fn flag(on: bool)
     say(b"0");
 }
 
-fn wide(n: u32) -> u64 {
-    n as u64
-}
-
-// What a list has in its bytes, the low byte of each first: bytes and units are written in hexadecimal digits, counts and lengths as
-// numbers joined by commas.
+// What a list has in its bytes, the low byte of each first.
 pub enum Form {
     Byte,
     Unit,
-    Count,
-    Length,
 }
 
 fn width(form: Form) -> usize
-    ensures { λ r. ⌜ (0 < r) × (r ≤ 4) ⌝ }
+    ensures { λ r. ⌜ (0 < r) × (r ≤ 2) ⌝ }
 {
     match form {
         Form::Byte => 1,
         Form::Unit => 2,
-        Form::Count => 2,
-        Form::Length => 4,
     }
 }
 
-fn comma(at: usize) {
-    if at > 0 {
-        say(b",");
-    }
+fn item(list: &[u8], at: usize, width: usize)
+    requires { ⌜ width ≤ 2 ⌝ }
+{
+    io::print_hex(
+        STDOUT_FILENO,
+        little_endian::read(list, at, width) as u64,
+        2 * width,
+    );
 }
 
-fn item(list: &[u8], at: usize, form: Form) {
-    match form {
-        Form::Byte => {
-            io::print_hex(STDOUT_FILENO, wide(little_endian::read(list, at, 1)), 2);
-        }
-        Form::Unit => {
-            io::print_hex(STDOUT_FILENO, wide(little_endian::read(list, at, 2)), 4);
-        }
-        Form::Count => {
-            comma(at);
-            io::print_decimal(STDOUT_FILENO, wide(little_endian::read(list, at, 2)));
-        }
-        Form::Length => {
-            comma(at);
-            io::print_decimal(STDOUT_FILENO, wide(little_endian::read(list, at, 4)));
-        }
-    }
-}
-
-fn items(list: &[u8], form: Form, width: usize)
-    requires { ⌜ 0 < width ⌝ }
+fn items(list: &[u8], width: usize)
+    requires { ⌜ (0 < width) × (width ≤ 2) ⌝ }
 {
     let mut at = 0;
     while at < list.len() {
-        item(list, at, form);
+        item(list, at, width);
         if list.len() - at < width {
             return;
         }
@@ -112,7 +88,9 @@ pub fn is_long(items: usize, same: bool) -> bool {
 }
 
 // The mark of a repetition.
-pub fn times(n: usize) {
+pub fn times(n: usize)
+    ensures { λ r. ⌜ r ≡ tt ⌝ }
+{
     say(b"*");
     number(n);
 }
@@ -127,20 +105,24 @@ pub fn list(list: &[u8], form: Form)
     }
     let wide = width(form);
     if is_long(list.len() / wide, same(list, wide)) {
-        item(list, 0, form);
+        item(list, 0, wide);
         times(list.len() / wide);
         return;
     }
-    items(list, form, wide);
+    items(list, wide);
 }
 
 // Bytes as a part of a word.
-pub fn plain(list: &[u8]) {
-    items(list, Form::Byte, 1);
+pub fn plain(list: &[u8])
+    ensures { λ r. ⌜ r ≡ tt ⌝ }
+{
+    items(list, 1);
 }
 
 // A text of a value.
-pub fn text(list: &[u8]) {
+pub fn text(list: &[u8])
+    ensures { λ r. ⌜ r ≡ tt ⌝ }
+{
     say(b"t");
     if list.len() == 0 {
         say(b"-");
@@ -154,24 +136,24 @@ pub fn bytes(list: &[u8])
     crate::shown::list(list, Form::Byte);
 }
 
+fn marked(mark: &[u8], n: i32) {
+    say(mark);
+    numbers::show(n);
+}
+
 // A cell as it is handed over: its kind and its number.
-pub fn cell(kind: u8, number: i32) {
+pub fn cell(kind: u8, number: i32)
+    ensures { λ r. ⌜ r ≡ tt ⌝ }
+{
     match kind {
         0 => say(b"n"),
-        1 => {
-            say(b"i");
-            numbers::show(number);
-        }
-        2 => {
-            say(b"s");
-            numbers::show(number);
-        }
+        1 => marked(b"i", number),
+        2 => marked(b"s", number),
         3 => say(b"b"),
         _ => {
             say(b"k");
             crate::shown::number(kind as usize);
-            say(b":");
-            numbers::show(number);
+            marked(b":", number);
         }
     }
 }
@@ -185,28 +167,27 @@ fn panics(n: u32) -> bool {
     }
 }
 
+fn spaced(n: usize) {
+    say(b" ");
+    number(n);
+}
+
 pub fn refused(why: Refusal)
     ensures { λ r. ⌜ r ≡ tt ⌝ }
 {
     let n = why.number();
     if panics(n) {
-        say(b"panic ");
+        say(b"panic");
     } else {
-        say(b"error ");
+        say(b"error");
     }
-    number(n as usize);
-    let place = why.place();
-    match place {
-        Place::Nowhere => say(b""),
-        Place::Column(column) => {
-            say(b" ");
-            number(column);
-        }
+    spaced(n as usize);
+    match why.place() {
+        Place::Nowhere => {}
+        Place::Column(column) => spaced(column),
         Place::Cell { row, column } => {
-            say(b" ");
-            number(column);
-            say(b" ");
-            number(row);
+            spaced(column);
+            spaced(row);
         }
     }
 }

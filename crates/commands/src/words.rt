@@ -3,7 +3,7 @@
 ghost use mathlib.Core.Path.{_≡_};
 ghost use lib.ListN.{take};
 ghost use Prim.Native.Nat.{_+_, _*_, _≤_, _<_};
-ghost use Rattle.commands.specs.Words.{byteAt, rankOf, endsAt, endOf, afterEnd, digitOf, pairAt, pairsIn, timesAt, product, bytesOutcome, lesser, isDigit, digitsAt};
+ghost use Rattle.commands.specs.Words.{byteAt, rankOf, endsAt, endOf, afterEnd, digitOf, pairAt, pairsIn, timesAt, product, bytesAt, bytesOutcome, lesser, isDigit, digitsAt};
 
 // How far a reading goes: to the end of the line, of the word, of the item of a list, to the mark of a repetition, or to a colon.
 pub const LINE: u8 = 5;
@@ -140,6 +140,14 @@ pub fn product(a: usize, b: u64) -> usize
         return 0;
     }
     a * b as usize
+}
+
+// How many bytes a word of hexadecimal digits has, `HEX` or `HEX*N`.
+pub fn bytes_at(s: &[u8], from: usize) -> usize
+    ensures { λ r. ⌜ r ≡ bytesAt (now (s .entry)) from ⌝ }
+{
+    let end = end_of(s, from, TIMES);
+    product(pairs(s, from, end), times_at(s, end))
 }
 
 // The bytes of a word of hexadecimal digits, `HEX` or `HEX*N`, as many as there is room for: how many those are.

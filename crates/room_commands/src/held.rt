@@ -1,11 +1,9 @@
 // What the rooms and the last output hold.
 use crate::ALL;
 use crate::Desk;
-use commands::kept;
 use commands::numbers::count_at;
 use commands::places;
 use commands::shown;
-use commands::shown::Form;
 use commands::words::LINE;
 use commands::words::WORD;
 use commands::words::byte;
@@ -25,20 +23,80 @@ fn start(n: usize, most: usize) -> usize
     n - most
 }
 
-fn lengths_out(room: &[u32], most: usize) {
-    let mut bytes = [0u8; 262400];
-    let from = start(room.len(), most);
-    let n = kept::lengths(&room[from..], &mut bytes);
-    let m = places::bytes(&bytes, n);
-    shown::list(&bytes[..m], Form::Length);
+// The number at place `i` of a list.
+fn length(i: usize, n: u32) {
+    if i > 0 {
+        shown::say(b",");
+    }
+    shown::number(n as usize);
 }
 
-fn counts_out(room: &[u16], most: usize) {
-    let mut bytes = [0u8; 131200];
-    let from = start(room.len(), most);
-    let n = kept::units(&room[from..], &mut bytes);
-    let m = places::bytes(&bytes, n);
-    shown::list(&bytes[..m], Form::Count);
+fn count(i: usize, n: u16) {
+    length(i, n as u32);
+}
+
+fn same_lengths(room: &[u32]) -> bool {
+    let mut i = 1;
+    while i < room.len() {
+        if room[i] != room[i - 1] {
+            return false;
+        }
+        i += 1;
+    }
+    true
+}
+
+fn each_length(room: &[u32]) {
+    let mut i = 0;
+    while i < room.len() {
+        length(i, room[i]);
+        i += 1;
+    }
+}
+
+fn lengths_out(room: &[u32]) {
+    if room.len() == 0 {
+        shown::say(b"-");
+        return;
+    }
+    if shown::is_long(room.len(), same_lengths(room)) {
+        length(0, room[0]);
+        shown::times(room.len());
+        return;
+    }
+    each_length(room);
+}
+
+fn same_counts(room: &[u16]) -> bool {
+    let mut i = 1;
+    while i < room.len() {
+        if room[i] != room[i - 1] {
+            return false;
+        }
+        i += 1;
+    }
+    true
+}
+
+fn each_count(room: &[u16]) {
+    let mut i = 0;
+    while i < room.len() {
+        count(i, room[i]);
+        i += 1;
+    }
+}
+
+fn counts_out(room: &[u16]) {
+    if room.len() == 0 {
+        shown::say(b"-");
+        return;
+    }
+    if shown::is_long(room.len(), same_counts(room)) {
+        count(0, room[0]);
+        shown::times(room.len());
+        return;
+    }
+    each_count(room);
 }
 
 // The last bytes of a list.
@@ -110,9 +168,9 @@ pub fn held(
 ) {
     let most = most_at(s, at);
     shown::say(b"ok ");
-    lengths_out(lengths, most);
+    lengths_out(&lengths[start(lengths.len(), most)..]);
     shown::say(b" ");
-    counts_out(counts, most);
+    counts_out(&counts[start(counts.len(), most)..]);
     shown::say(b" ");
     last(text, most);
     shown::say(b" ");

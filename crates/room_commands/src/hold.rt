@@ -1,63 +1,87 @@
 // The first places of a room hold what a command says.
-use commands::kept;
-use commands::lists::numbers_in;
-use commands::places;
+use commands::lists;
+use commands::numbers::count_at;
 use commands::shown;
+use commands::words::WORD;
+use commands::words::bytes_at;
 use commands::words::bytes_in;
+use commands::words::end_of;
 use commands::words::is;
 use commands::words::next;
+use commands::words::number_at;
 
-fn put_lengths(list: &[u32], room: &mut [u32]) {
-    for i in 0..list.len() {
-        if room.len() <= i {
+// Whether a list has at most `places` numbers, and none above `most`.
+fn fits(s: &[u8], at: usize, most: u64, places: usize) -> bool {
+    let end = end_of(s, at, WORD);
+    let mut item = lists::first(s, at);
+    let mut left = places;
+    while left > 0 {
+        if item.at >= end {
+            return true;
+        }
+        if number_at(s, item.at) > most {
+            return false;
+        }
+        item = lists::next(s, item);
+        left -= 1;
+    }
+    item.at >= end
+}
+
+fn put_lengths(s: &[u8], at: usize, room: &mut [u32]) {
+    let end = end_of(s, at, WORD);
+    let mut item = lists::first(s, at);
+    let mut i = 0;
+    while i < room.len() {
+        let place = item.at;
+        if place >= end {
             return;
         }
-        room[i] = list[i];
+        room[i] = count_at(s, place);
+        item = lists::next(s, item);
+        i += 1;
     }
 }
 
 fn hold_lengths(s: &[u8], at: usize, room: &mut [u32]) {
-    let mut list = [0u32; 65601];
-    let n = numbers_in(s, at, 4_294_967_295, &mut list);
-    if n > room.len() {
-        shown::say(b"bad");
+    if fits(s, at, 4_294_967_295, room.len()) {
+        put_lengths(s, at, room);
+        shown::say(b"ok");
         return;
     }
-    let m = places::lengths(&list, n);
-    put_lengths(&list[..m], room);
-    shown::say(b"ok");
+    shown::say(b"bad");
 }
 
-fn put_counts(list: &[u32], room: &mut [u16]) {
-    for i in 0..list.len() {
-        if room.len() <= i {
+fn put_counts(s: &[u8], at: usize, room: &mut [u16]) {
+    let end = end_of(s, at, WORD);
+    let mut item = lists::first(s, at);
+    let mut i = 0;
+    while i < room.len() {
+        let place = item.at;
+        if place >= end {
             return;
         }
-        room[i] = (list[i] % 65536) as u16;
+        room[i] = (count_at(s, place) % 65536) as u16;
+        item = lists::next(s, item);
+        i += 1;
     }
 }
 
 fn hold_counts(s: &[u8], at: usize, room: &mut [u16]) {
-    let mut list = [0u32; 65601];
-    let n = numbers_in(s, at, 65_535, &mut list);
-    if n > room.len() {
-        shown::say(b"bad");
+    if fits(s, at, 65_535, room.len()) {
+        put_counts(s, at, room);
+        shown::say(b"ok");
         return;
     }
-    let m = places::lengths(&list, n);
-    put_counts(&list[..m], room);
-    shown::say(b"ok");
+    shown::say(b"bad");
 }
 
 fn hold_text(s: &[u8], at: usize, room: &mut [u8]) {
-    let mut list = [0u8; 131073];
-    let n = bytes_in(s, at, &mut list);
-    if n > room.len() {
+    if bytes_at(s, at) > room.len() {
         shown::say(b"bad");
         return;
     }
-    let m = places::bytes(&list, n);
-    kept::bytes(&list[..m], room);
+    bytes_in(s, at, room);
     shown::say(b"ok");
 }
 

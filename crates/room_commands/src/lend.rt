@@ -12,6 +12,7 @@ const FILL_COUNT: u16 = 0xEEEE;
 
 const FILL_BYTE: u8 = 0xEE;
 
+// What a room holds past its size is no more.
 fn cut_lengths(room: &mut [u32], from: usize) {
     let mut i = from;
     while i < room.len() {
@@ -34,13 +35,6 @@ fn cut_text(room: &mut [u8], from: usize) {
         room[i] = FILL_BYTE;
         i += 1;
     }
-}
-
-// What the rooms hold past their sizes is no more.
-pub fn cut(lengths: &mut [u32], counts: &mut [u16], text: &mut [u8], desk: Desk) {
-    cut_lengths(lengths, desk.lengths);
-    cut_counts(counts, desk.counts);
-    cut_text(text, desk.text);
 }
 
 fn sized(s: &[u8], at: usize, mut desk: Desk) -> Desk {
@@ -70,7 +64,9 @@ pub fn lend(
     text: &mut [u8],
 ) -> Desk {
     let lent = sized(s, at, desk);
-    cut(lengths, counts, text, lent);
+    cut_lengths(lengths, lent.lengths);
+    cut_counts(counts, lent.counts);
+    cut_text(text, lent.text);
     shown::say(b"ok");
     lent
 }

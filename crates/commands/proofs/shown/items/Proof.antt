@@ -5,10 +5,10 @@ use Rattle.commands.proofs.shown.items.Statement.{statement}
 use Rattle.commands.proofs.shown.items.Tie as tie
 
 abbrev Inv-loop : tie.InvT-loop
-Inv-loop list form width at₀ at = Unit {0}
+Inv-loop list width at₀ at = Unit {0}
 
 abbrev μ-loop : tie.MeasureT-loop
-μ-loop list form width at₀ at = length list - at
+μ-loop list width at₀ at = length list - at
 
 pub items-spec : {M : Type 1} → statement M
 items-spec =

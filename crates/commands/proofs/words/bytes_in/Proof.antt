@@ -69,4 +69,4 @@ pub bytes-in-spec : {M : Type 1} → statement M
 bytes-in-spec =
     tie.close
     (tie.spec Inv-loop μ-loop (λ c κs. search needs) (λ c κs. search needs) (λ c κs. search needs) (λ c κs. search needs) (λ c κs. search needs)
-    loop-holds rem-pair pair-requires slice-write-out (λ c. search needs) (λ c. search needs) loop-again same-length returns) 
+    loop-holds rem-pair pair-requires slice-write-out (λ c. search needs) (λ c. search needs) loop-again same-length returns)

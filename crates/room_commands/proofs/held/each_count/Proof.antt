@@ -1,0 +1,17 @@
+use borrow.Author.Needs.{needs}
+use lib.ListN.{length}
+use Prim.Native.Nat.{_-_}
+use Rattle.room_commands.proofs.held.each_count.Statement.{statement}
+use Rattle.room_commands.proofs.held.each_count.Tie as tie
+
+abbrev Inv-loop : tie.InvT-loop
+Inv-loop room i₀ i = Unit {0}
+
+abbrev μ-loop : tie.MeasureT-loop
+μ-loop room i₀ i = length room - i
+
+pub each-count-spec : {M : Type 1} → statement M
+each-count-spec =
+    tie.close
+    (tie.spec Inv-loop μ-loop (λ c. tt) (λ c. search needs) (λ c. search needs) (λ c κs. search needs) (λ c. search needs) (λ c. search needs)
+    (λ c. tt) (λ c. search needs))

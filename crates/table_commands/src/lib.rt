@@ -28,6 +28,19 @@ use table::Laid;
 use table::Table;
 use table::TableMade;
 
+// Rooms of each size that the commands fill. An array that a call gives back is known by its size, and not place by place.
+fn stream_room() -> [u8; 270000] {
+    [0u8; 270000]
+}
+
+fn kinds_room() -> [u8; 65600] {
+    [0xEEu8; 65600]
+}
+
+fn numbers_room() -> [i32; 65600] {
+    [-286331154i32; 65600]
+}
+
 // The column of a type behind a colon.
 fn typed_at(s: &[u8], at: usize) -> Column {
     let made = column_at(s, after(s, at), Column::build());
@@ -129,7 +142,7 @@ pub fn are_long(kinds: &[u8], numbers: &[i32]) -> bool {
     if kinds.len() < 65 {
         return false;
     }
-    let mut bytes = [0u8; 270000];
+    let mut bytes = stream_room();
     let n = kept::numbers(numbers, &mut bytes);
     let m = places::bytes(&bytes, n);
     if shown::same(kinds, 1) {
@@ -193,8 +206,8 @@ fn read_table(
     desk: Desk,
     out: &mut [u8],
 ) -> Desk {
-    let mut kinds = [0xEEu8; 65600];
-    let mut numbers = [-286331154i32; 65600];
+    let mut kinds = kinds_room();
+    let mut numbers = numbers_room();
     let rows = rows_of(table.num_rows(stream));
     let n = places::bytes(&kinds, desk.output(product(rows, table.count as u64)));
     let m = places::numbers(&numbers, n);
@@ -212,7 +225,7 @@ fn read_table(
 
 // `read LONG LAYOUT BYTES`
 pub fn read(s: &[u8], at: usize, desk: Desk, out: &mut [u8]) -> Desk {
-    let mut stream = [0u8; 270000];
+    let mut stream = stream_room();
     let n = bytes_in(s, next(s, next(s, at)), &mut stream);
     let made = laid(s, at);
     let answer = made.answer;
@@ -238,7 +251,7 @@ fn read_place(s: &[u8], at: usize, table: Table, stream: &[u8], row: usize, colu
 
 // `place LONG LAYOUT BYTES R C`
 pub fn place(s: &[u8], at: usize) {
-    let mut stream = [0u8; 270000];
+    let mut stream = stream_room();
     let bytes = next(s, next(s, at));
     let n = bytes_in(s, bytes, &mut stream);
     let row = next(s, bytes);
@@ -282,8 +295,8 @@ fn write_table(
 }
 
 fn write_cells(s: &[u8], at: usize, table: Table, desk: Desk, out: &mut [u8]) -> Desk {
-    let mut kinds = [0u8; 65600];
-    let mut values = [0i32; 65600];
+    let mut kinds = kinds_room();
+    let mut values = numbers_room();
     let given = cells_in(s, next(s, next(s, next(s, at))), &mut kinds, &mut values);
     let n = places::bytes(&kinds, given);
     let m = places::numbers(&values, given);

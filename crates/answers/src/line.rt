@@ -24,21 +24,21 @@ fn reference(s: &[u8], at: usize) {
 fn tables(s: &[u8], at: usize, desk: Desk, out: &mut [u8]) -> Desk {
     let word = next(s, at);
     if is(s, at, b"read") {
-        return table_commands::read(s, word, desk, out);
+        return row_commands::read(s, word, desk, out);
     }
     if is(s, at, b"write") {
         return table_commands::write(s, word, desk, out);
     }
     if is(s, at, b"place") {
-        table_commands::place(s, word);
+        row_commands::place(s, word);
         return desk;
     }
     if is(s, at, b"col") {
-        column_commands::made(s, word);
+        table_commands::columns::made(s, word);
         return desk;
     }
     if is(s, at, b"check") {
-        column_commands::checked(s, word);
+        table_commands::columns::checked(s, word);
         return desk;
     }
     shown::say(b"bad");
@@ -88,7 +88,7 @@ fn lent(
         return pool_commands::read(s, at, desk, lengths, counts, text, out);
     }
     if is(s, at, b"rows") {
-        row_commands::answer(s, next(s, at), desk.pool, lengths, counts, text);
+        row_commands::rows(s, next(s, at), desk.pool, lengths, counts, text);
         return desk;
     }
     if is(s, at, b"hold") {

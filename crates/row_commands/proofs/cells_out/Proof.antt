@@ -1,7 +1,7 @@
 use borrow.Author.Needs.{needs}
 use Prim.Native.Nat.{_-_}
-use Rattle.table_commands.proofs.cells_out.Statement.{statement}
-use Rattle.table_commands.proofs.cells_out.Tie as tie
+use Rattle.row_commands.proofs.cells_out.Statement.{statement}
+use Rattle.row_commands.proofs.cells_out.Tie as tie
 
 abbrev Inv-loop : tie.InvT-loop
 Inv-loop kinds numbers cells i₀ i = Unit {0}

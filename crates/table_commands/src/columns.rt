@@ -1,4 +1,4 @@
-// Commands on columns.
+// Commands on columns, and columns as words of the command language.
 use cell::Value;
 use column::Bitfield;
 use column::Column;
@@ -18,6 +18,7 @@ use commands::words::end_of;
 use commands::words::front;
 use commands::words::next;
 use common::Refusal;
+ghost use mathlib.Core.Path.{_≡_};
 ghost use Prim.Native.Nat.{_+_, _*_, _≤_};
 
 // 1 nullable, 2 localizable, 4 primary key, added up.
@@ -36,7 +37,7 @@ fn marked(marks: u8) -> ColumnBuilder {
 }
 
 // Whether a type is handed over by a number that no type has: `xNUM`.
-pub fn is_unknown(s: &[u8], at: usize) -> bool {
+pub(crate) fn is_unknown(s: &[u8], at: usize) -> bool {
     if byte(s, at) == b'x' {
         return numbers::count_at(s, after(s, at)) > 3;
     }
@@ -55,7 +56,7 @@ fn handed(number: u32, being_made: ColumnBuilder) -> Column {
 }
 
 // The column of bits, `@BITS`, or of a type: `i2`, `i4`, `sMAX`, `b`, `xNUM`.
-pub fn column_at(s: &[u8], at: usize, being_made: ColumnBuilder) -> ColumnMade {
+pub(crate) fn column_at(s: &[u8], at: usize, being_made: ColumnBuilder) -> ColumnMade {
     let rest = after(s, at);
     match byte(s, at) {
         b'@' => being_made.with_bitfield(numbers::signed_at(s, rest)),
@@ -102,7 +103,7 @@ fn marks_out(column: Column) {
 }
 
 // A refusal of a column: 16 in place of 19 where its type is unknown.
-pub fn refusal(why: Refusal, unknown: bool) -> u32 {
+pub(crate) fn refusal(why: Refusal, unknown: bool) -> u32 {
     let number = why.number();
     if unknown {
         if number == 19 {
@@ -136,7 +137,9 @@ fn bits_out(column: Column, unknown: bool) {
 }
 
 // `col SPEC MARKS`
-pub fn made(s: &[u8], at: usize) {
+pub fn made(s: &[u8], at: usize)
+    ensures { λ r. ⌜ r ≡ tt ⌝ }
+{
     let marks = byte(s, next(s, at));
     let answer = column_at(s, at, marked(marks));
     match answer {
@@ -183,8 +186,13 @@ fn flag(on: bool, known: bool) {
     shown::say(b"error 16");
 }
 
+// An array that a call gives back is known by its size, and not place by place.
+fn text_room() -> [u8; 140000] {
+    [0u8; 140000]
+}
+
 fn check(column: Column, s: &[u8], at: usize, unknown: bool) {
-    let mut text = [0u8; 140000];
+    let mut text = text_room();
     let n = bytes_in(s, after(s, at), &mut text);
     let cell = lists::cell_at(s, at);
     valid(
@@ -195,7 +203,9 @@ fn check(column: Column, s: &[u8], at: usize, unknown: bool) {
 }
 
 // `check SPEC MARKS RANGE VALUE`
-pub fn checked(s: &[u8], at: usize) {
+pub fn checked(s: &[u8], at: usize)
+    ensures { λ r. ⌜ r ≡ tt ⌝ }
+{
     let marks = next(s, at);
     let range = next(s, marks);
     let answer = column_at(s, at, ranged(s, range, marked(byte(s, marks))));

@@ -2,8 +2,8 @@ use borrow.Author.Needs.{needs}
 use mathlib.Core.Path.{_≡_}
 use lib.ListN.{length}
 use Prim.Native.Nat.{_-_}
-use Rattle.table_commands.proofs.by_types.Statement.{statement}
-use Rattle.table_commands.proofs.by_types.Tie as tie
+use Rattle.table_commands.proofs.layouts.by_types.Statement.{statement}
+use Rattle.table_commands.proofs.layouts.by_types.Tie as tie
 
 abbrev Inv-loop : tie.InvT-loop
 Inv-loop s at long-string-refs columns₀ end item₀ count₀ columns item count = length columns ≡ 64

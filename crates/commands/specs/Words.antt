@@ -1,6 +1,6 @@
 -- Words of the command language in a text, by their places.
 use Prim.Native.Nat.{ℕ, zero, suc, _+_, _*_, _-_, _/_, _%_}
-use mathlib.Core.Bool.{Bool, _&&_}
+use mathlib.Core.Bool.{Bool, false, _&&_}
 use mathlib.Core.List.{List, [], _∷_}
 use lib.ListN.{length, drop, getD}
 use Rattle.common.specs.Choice.{if_then_else_, _<?_, _≤?_, _=?_}
@@ -80,3 +80,29 @@ bytesOutcome s from out =
     let once = pairsIn s from end in
     let n = lesser (length out) (product once (timesAt s end)) in
     (n, listed (pairOver s from once) 0 n over out)
+
+-- 0 where 32 bits do not hold it
+abbrev pub countAt : List ℕ → ℕ → ℕ
+countAt s at = if 4294967295 <? digitsAt s at then 0 else digitsAt s at
+
+-- whether a word is `-`
+abbrev pub isNone : List ℕ → ℕ → Bool
+isNone s at = if byteAt s at =? 45 then afterEnd s at =? endOf s at 4 else false
+
+-- the first item of a list: where it stands, and how often
+abbrev pub firstAt : List ℕ → ℕ → ℕ
+firstAt s at = if isNone s at then endOf s at 4 else at
+
+abbrev pub firstTimes : List ℕ → ℕ → ℕ
+firstTimes s at = if isNone s at then 1 else timesAt s (endOf s at 2)
+
+-- the item after one that still stands `left` times
+abbrev pub nextAt : List ℕ → ℕ → ℕ → ℕ
+nextAt s at left = if 1 <? left then at else afterEnd s (endOf s at 3)
+
+abbrev pub nextTimes : List ℕ → ℕ → ℕ → ℕ
+nextTimes s at left = if 1 <? left then left - 1 else timesAt s (endOf s (afterEnd s (endOf s at 3)) 2)
+
+-- more than 64 items that are all the same
+abbrev pub isLong : ℕ → Bool → Bool
+isLong items same = if same then 64 <? items else false

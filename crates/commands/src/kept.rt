@@ -63,7 +63,9 @@ pub fn numbers(list: &[i32], out: &mut [u8]) -> usize
 }
 
 // Cells: their kinds, then their numbers.
-pub fn cells(kinds: &[u8], list: &[i32], out: &mut [u8]) -> usize {
+pub fn cells(kinds: &[u8], list: &[i32], out: &mut [u8]) -> usize
+    ensures { λ r. ⌜ length (now (out .exit)) ≡ length (now (out .entry)) ⌝ }
+{
     let n = bytes(kinds, out);
     numbers(list, &mut out[n..]);
     product(n, 5)

@@ -8,8 +8,10 @@ use crate::words::after;
 use crate::words::byte;
 use crate::words::end_of;
 use crate::words::times_at;
+ghost use mathlib.Core.Path.{_≡_};
 ghost use Prim.Native.Nat.{_≤_};
 ghost use lib.ListN.{length};
+ghost use Rattle.commands.specs.Words.{endOf, timesAt, isNone, firstAt, firstTimes, nextAt, nextTimes};
 
 // Where an item stands, and how often from here on. Past the end of the word there is none.
 pub struct Item {
@@ -18,21 +20,27 @@ pub struct Item {
 }
 
 // Whether a word is `-`, and not the sign of a number.
-pub fn is_none(s: &[u8], at: usize) -> bool {
+pub fn is_none(s: &[u8], at: usize) -> bool
+    ensures { λ r. ⌜ r ≡ isNone (now (s .entry)) at ⌝ }
+{
     if byte(s, at) != b'-' {
         return false;
     }
     after(s, at) == end_of(s, at, WORD)
 }
 
-fn item_at(s: &[u8], at: usize) -> Item {
+fn item_at(s: &[u8], at: usize) -> Item
+    ensures { λ r. ⌜ (r .at ≡ at) × (r .left ≡ timesAt (now (s .entry)) (endOf (now (s .entry)) at 2)) ⌝ }
+{
     Item {
         at,
         left: times_at(s, end_of(s, at, TIMES)),
     }
 }
 
-pub fn first(s: &[u8], at: usize) -> Item {
+pub fn first(s: &[u8], at: usize) -> Item
+    ensures { λ r. ⌜ (r .at ≡ firstAt (now (s .entry)) at) × (r .left ≡ firstTimes (now (s .entry)) at) ⌝ }
+{
     if is_none(s, at) {
         return Item {
             at: end_of(s, at, WORD),
@@ -42,7 +50,9 @@ pub fn first(s: &[u8], at: usize) -> Item {
     item_at(s, at)
 }
 
-pub fn next(s: &[u8], item: Item) -> Item {
+pub fn next(s: &[u8], item: Item) -> Item
+    ensures { λ r. ⌜ (r .at ≡ nextAt (now (s .entry)) (item .at) (item .left)) × (r .left ≡ nextTimes (now (s .entry)) (item .at) (item .left)) ⌝ }
+{
     let left = item.left;
     let at = item.at;
     if left > 1 {

@@ -5,6 +5,7 @@ use crate::words::byte;
 use crate::words::number_at;
 ghost use mathlib.Core.Path.{_≡_};
 ghost use Prim.Native.Nat.{_<_};
+ghost use Rattle.commands.specs.Words.{countAt};
 ghost use Rattle.cell.specs.inner.Signed.{biased, unbiased};
 
 fn bias(n: i32) -> u64
@@ -37,7 +38,9 @@ pub fn signed_at(s: &[u8], at: usize) -> i32 {
 }
 
 // A number that is not signed; 0 where 32 bits do not hold it.
-pub fn count_at(s: &[u8], at: usize) -> u32 {
+pub fn count_at(s: &[u8], at: usize) -> u32
+    ensures { λ r. ⌜ r ≡ countAt (now (s .entry)) at ⌝ }
+{
     let n = number_at(s, at);
     if n > 4294967295 {
         return 0;

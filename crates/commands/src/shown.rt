@@ -6,6 +6,7 @@ use common::Refusal;
 use libc::STDOUT_FILENO;
 ghost use mathlib.Core.Path.{_≡_};
 ghost use Prim.Native.Nat.{_≤_, _<_};
+ghost use Rattle.commands.specs.Words.{isLong};
 
 pub fn say(words: &[u8])
     ensures { λ r. ⌜ r ≡ tt ⌝ }
@@ -80,7 +81,9 @@ pub fn same(list: &[u8], width: usize) -> bool {
 }
 
 // More than 64 items that are all the same are written once.
-pub fn is_long(items: usize, same: bool) -> bool {
+pub fn is_long(items: usize, same: bool) -> bool
+    ensures { λ r. ⌜ r ≡ isLong items same ⌝ }
+{
     if same {
         return items > 64;
     }

@@ -68,5 +68,5 @@ returns c =
 pub bytes-in-spec : {M : Type 1} → statement M
 bytes-in-spec =
     tie.close
-    (tie.spec Inv-loop μ-loop (λ c κs. search needs) (λ c κs. search needs) (λ c κs. search needs) (λ c κs. search needs) (λ c κs. search needs)
+    (tie.spec Inv-loop μ-loop (λ c κs. tt) (λ c κs. tt) (λ c κs. tt) (λ c κs. tt) (λ c κs. tt)
     loop-holds rem-pair pair-requires slice-write-out (λ c. search needs) (λ c. search needs) loop-again same-length returns)

@@ -26,5 +26,5 @@ returns-2 c = run-end (c .before .before .before .args .upto) (now (c .before .b
 pub end-of-spec : {M : Type 1} → statement M
 end-of-spec =
     tie.close
-    (tie.spec Inv-loop μ-loop (λ c. refl) (λ c. search needs) (λ c κs. search needs) returns (λ c. search needs) (λ c. search needs) loop-again
+    (tie.spec Inv-loop μ-loop (λ c. refl) (λ c. search needs) (λ c κs. tt) returns (λ c. search needs) (λ c. search needs) loop-again
     returns-2)

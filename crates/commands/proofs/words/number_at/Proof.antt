@@ -40,5 +40,5 @@ returns-3 c = value-end (c .before .loop .sum) (now (c .before .before .before .
 pub number-at-spec : {M : Type 1} → statement M
 number-at-spec =
     tie.close
-    (tie.spec Inv-loop μ-loop loop-holds (λ c. search needs) (λ c κs. search needs) returns returns-2 (λ c. omega arith) (λ c. search needs)
-    (λ c κs. search needs) add-sum (λ c. search needs) (λ c. search needs) loop-again returns-3)
+    (tie.spec Inv-loop μ-loop loop-holds (λ c. search needs) (λ c κs. tt) returns returns-2 (λ c. omega arith) (λ c. search needs)
+    (λ c κs. tt) add-sum (λ c. search needs) (λ c. search needs) loop-again returns-3)

@@ -12,6 +12,6 @@ add-result c = omega (arith, c .before .before .digit .ensures .1, c .digit2 .en
 pub pair-spec : {M : Type 1} → statement M
 pair-spec =
     tie.close
-    (tie.spec (λ c. search needs) (λ c. search needs) (λ c κs. search needs) (λ c κs. search needs) mul-result (λ c. search needs)
-    (λ c κs. search needs) (λ c κs. search needs) add-result
+    (tie.spec (λ c. search needs) (λ c. search needs) (λ c κs. tt) (λ c κs. tt) mul-result (λ c. search needs)
+    (λ c κs. tt) (λ c κs. tt) add-result
     (λ c. simp (c .before .before .digit .ensures .0, c .digit2 .ensures .0, c .before .before .before .byte .ensures, c .before .byte2 .ensures)))

@@ -11,6 +11,7 @@ use commands::words::end_of;
 use commands::words::front;
 use commands::words::next;
 use commands::words::product;
+ghost use mathlib.Core.Path.{_≡_};
 ghost use Prim.Native.Nat.{_≤_};
 
 // Where the last `most` of `n` places start.
@@ -165,7 +166,9 @@ pub fn held(
     counts: &[u16],
     text: &[u8],
     out: &[u8],
-) {
+)
+    ensures { λ r. ⌜ r ≡ tt ⌝ }
+{
     let most = most_at(s, at);
     shown::say(b"ok ");
     lengths_out(&lengths[start(lengths.len(), most)..]);

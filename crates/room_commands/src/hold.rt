@@ -9,6 +9,7 @@ use commands::words::end_of;
 use commands::words::is;
 use commands::words::next;
 use commands::words::number_at;
+ghost use mathlib.Core.Path.{_≡_};
 
 // Whether a list has at most `places` numbers, and none above `most`.
 fn fits(s: &[u8], at: usize, most: u64, places: usize) -> bool {
@@ -86,7 +87,9 @@ fn hold_text(s: &[u8], at: usize, room: &mut [u8]) {
 }
 
 // `hold lengths NUMBERS`, `hold counts NUMBERS`, `hold text BYTES`
-pub fn hold(s: &[u8], at: usize, lengths: &mut [u32], counts: &mut [u16], text: &mut [u8]) {
+pub fn hold(s: &[u8], at: usize, lengths: &mut [u32], counts: &mut [u16], text: &mut [u8])
+    ensures { λ r. ⌜ r ≡ tt ⌝ }
+{
     if is(s, at, b"lengths") {
         hold_lengths(s, next(s, at), lengths);
         return;

@@ -5,6 +5,7 @@ use commands::lists::is_none;
 use commands::numbers::count_at;
 use commands::shown;
 use commands::words::next;
+ghost use mathlib.Core.Path.{_≡_};
 
 const FILL_LENGTH: u32 = 0xEEEE_EEEE;
 
@@ -37,7 +38,9 @@ fn cut_text(room: &mut [u8], from: usize) {
     }
 }
 
-fn sized(s: &[u8], at: usize, mut desk: Desk) -> Desk {
+fn sized(s: &[u8], at: usize, mut desk: Desk) -> Desk
+    ensures { λ r. ⌜ (r .pool ≡ desk .pool) × (r .places ≡ desk .places) × (r .left ≡ desk .left) × (r .width ≡ desk .width) ⌝ }
+{
     if is_none(s, at) {
         desk.lengths = ALL;
         desk.counts = ALL;
@@ -62,7 +65,9 @@ pub fn lend(
     lengths: &mut [u32],
     counts: &mut [u16],
     text: &mut [u8],
-) -> Desk {
+) -> Desk
+    ensures { λ r. ⌜ (r .pool ≡ desk .pool) × (r .places ≡ desk .places) × (r .left ≡ desk .left) × (r .width ≡ desk .width) ⌝ }
+{
     let lent = sized(s, at, desk);
     cut_lengths(lengths, lent.lengths);
     cut_counts(counts, lent.counts);

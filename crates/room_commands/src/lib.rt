@@ -10,6 +10,9 @@ use commands::shown;
 use commands::words::byte;
 use commands::words::next;
 use stringpool::StringPool;
+ghost use mathlib.Core.Path.{_≡_};
+ghost use Rattle.common.specs.Choice.{if_then_else_, _=?_};
+ghost use Rattle.commands.specs.Words.{isNone, countAt};
 
 // All places that there are, or as many as an output needs.
 pub const ALL: usize = 4_294_967_295;
@@ -30,7 +33,9 @@ pub struct Desk {
 
 impl Desk {
     // An empty pool, short, of code page 1252.
-    pub fn new() -> Desk {
+    pub fn new() -> Desk
+        ensures { λ r. ⌜ (r .lengths ≡ 4294967295) × (r .counts ≡ 4294967295) × (r .text ≡ 4294967295) × (r .places ≡ 4294967295) × (r .left ≡ 0) × (r .width ≡ 1) ⌝ }
+    {
         Desk {
             pool: StringPool {
                 num_strings: 0,
@@ -47,27 +52,35 @@ impl Desk {
     }
 
     // The places of an output that needs so many.
-    pub fn output(self, enough: usize) -> usize {
+    pub fn output(self, enough: usize) -> usize
+        ensures { λ r. ⌜ r ≡ (if self .places =? 4294967295 then enough else self .places) ⌝ }
+    {
         if self.places == ALL {
             return enough;
         }
         self.places
     }
 
-    pub fn leaves(mut self, left: usize, width: usize) -> Desk {
+    pub fn leaves(mut self, left: usize, width: usize) -> Desk
+        ensures { λ r. ⌜ (r .left ≡ left) × (r .width ≡ width) × (r .pool ≡ self .pool) × (r .lengths ≡ self .lengths) × (r .counts ≡ self .counts) × (r .text ≡ self .text) × (r .places ≡ self .places) ⌝ }
+    {
         self.left = left;
         self.width = width;
         self
     }
 
-    pub fn with_pool(mut self, pool: StringPool) -> Desk {
+    pub fn with_pool(mut self, pool: StringPool) -> Desk
+        ensures { λ r. ⌜ (r .pool ≡ pool) × (r .lengths ≡ self .lengths) × (r .counts ≡ self .counts) × (r .text ≡ self .text) × (r .places ≡ self .places) × (r .left ≡ self .left) × (r .width ≡ self .width) ⌝ }
+    {
         self.pool = pool;
         self
     }
 }
 
 // `out N`, `out -`
-pub fn out(s: &[u8], at: usize, mut desk: Desk) -> Desk {
+pub fn out(s: &[u8], at: usize, mut desk: Desk) -> Desk
+    ensures { λ r. ⌜ (r .places ≡ (if isNone (now (s .entry)) at then 4294967295 else countAt (now (s .entry)) at)) × (r .pool ≡ desk .pool) × (r .lengths ≡ desk .lengths) × (r .counts ≡ desk .counts) × (r .text ≡ desk .text) × (r .left ≡ desk .left) × (r .width ≡ desk .width) ⌝ }
+{
     shown::say(b"ok");
     if is_none(s, at) {
         desk.places = ALL;
@@ -79,7 +92,9 @@ pub fn out(s: &[u8], at: usize, mut desk: Desk) -> Desk {
 }
 
 // `pool ENTRIES LONG CP`
-pub fn pool(s: &[u8], at: usize, desk: Desk) -> Desk {
+pub fn pool(s: &[u8], at: usize, desk: Desk) -> Desk
+    ensures { λ r. ⌜ (r .lengths ≡ desk .lengths) × (r .counts ≡ desk .counts) × (r .text ≡ desk .text) × (r .places ≡ desk .places) × (r .left ≡ desk .left) × (r .width ≡ desk .width) ⌝ }
+{
     let long = next(s, at);
     shown::say(b"ok");
     desk.with_pool(StringPool {

@@ -13,5 +13,5 @@ abbrev μ-loop : tie.MeasureT-loop
 pub each-length-spec : {M : Type 1} → statement M
 each-length-spec =
     tie.close
-    (tie.spec Inv-loop μ-loop (λ c. tt) (λ c. search needs) (λ c. search needs) (λ c κs. search needs) (λ c. search needs) (λ c. search needs)
+    (tie.spec Inv-loop μ-loop (λ c. tt) (λ c. search needs) (λ c. search needs) (λ c κs. tt) (λ c. search needs) (λ c. search needs)
     (λ c. tt) (λ c. search needs))

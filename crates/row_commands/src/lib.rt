@@ -21,6 +21,7 @@ use table_commands::layouts::laid;
 use table_commands::layouts::refused;
 use table_commands::numbers_room;
 ghost use mathlib.Core.Path.{_≡_};
+ghost use lib.ListN.{length};
 
 // An array that a call gives back is known by its size, and not place by place.
 fn stream_room() -> [u8; 270000] {
@@ -47,32 +48,89 @@ fn are_long(kinds: &[u8], numbers: &[i32]) -> bool {
     false
 }
 
-fn cells_out(kinds: &[u8], numbers: &[i32], cells: usize) {
-    let mut i = 0;
-    while i < cells {
-        if i >= kinds.len() {
+// A cell; its text in place of a reference, where texts are asked for.
+fn value_out(
+    kind: u8,
+    number: i32,
+    texts: bool,
+    pool: StringPool,
+    lengths: &[u32],
+    counts: &[u16],
+    text: &[u8],
+) {
+    if texts {
+        if kind == 2 {
+            shown::text(pool.get(lengths, counts, text, number));
             return;
         }
-        if i >= numbers.len() {
+    }
+    shown::cell(kind, number);
+}
+
+fn values_out(
+    kinds: &[u8],
+    values: &[i32],
+    texts: bool,
+    pool: StringPool,
+    lengths: &[u32],
+    counts: &[u16],
+    text: &[u8],
+) {
+    for i in 0..kinds.len() {
+        if values.len() <= i {
             return;
         }
         comma(i);
-        shown::cell(kinds[i], numbers[i]);
-        i += 1;
+        value_out(kinds[i], values[i], texts, pool, lengths, counts, text);
     }
 }
 
-fn list(kinds: &[u8], numbers: &[i32]) {
+fn list(
+    kinds: &[u8],
+    values: &[i32],
+    texts: bool,
+    pool: StringPool,
+    lengths: &[u32],
+    counts: &[u16],
+    text: &[u8],
+) {
     if kinds.len() == 0 {
         shown::say(b"-");
         return;
     }
-    if are_long(kinds, numbers) {
-        cells_out(kinds, numbers, 1);
+    if are_long(kinds, values) {
+        values_out(front(kinds, 1), values, texts, pool, lengths, counts, text);
         shown::times(kinds.len());
         return;
     }
-    cells_out(kinds, numbers, kinds.len());
+    values_out(kinds, values, texts, pool, lengths, counts, text);
+}
+
+fn cells_out(
+    rows: usize,
+    kinds: &[u8],
+    numbers: &[i32],
+    cells: usize,
+    texts: bool,
+    pool: StringPool,
+    lengths: &[u32],
+    counts: &[u16],
+    text: &[u8],
+) {
+    shown::say(b"ok ");
+    shown::number(rows);
+    shown::say(b" ");
+    let n = places::bytes(kinds, cells);
+    let m = places::numbers(numbers, cells);
+    list(
+        &kinds[..n],
+        &numbers[..m],
+        texts,
+        pool,
+        lengths,
+        counts,
+        text,
+    );
 }
 
 fn rows_of(counted: Counted) -> usize {
@@ -80,15 +138,6 @@ fn rows_of(counted: Counted) -> usize {
         Counted::Count(rows) => rows,
         Counted::Refused(_) => 0,
     }
-}
-
-fn read_out(rows: usize, kinds: &[u8], numbers: &[i32], cells: usize) {
-    shown::say(b"ok ");
-    shown::number(rows);
-    shown::say(b" ");
-    let n = places::bytes(kinds, cells);
-    let m = places::numbers(numbers, cells);
-    list(&kinds[..n], &numbers[..m]);
 }
 
 fn read_cells(
@@ -99,11 +148,14 @@ fn read_cells(
     kinds: &mut [u8],
     numbers: &mut [i32],
     rows: usize,
+    pool: StringPool,
     out: &mut [u8],
 ) -> usize {
     let answer = table.read_rows(stream, kinds, numbers);
     match answer {
-        Counted::Count(cells) => read_out(rows, kinds, numbers, cells),
+        Counted::Count(cells) => {
+            cells_out(rows, kinds, numbers, cells, false, pool, &[], &[], &[])
+        }
         Counted::Refused(why) => refused(s, at, why),
     }
     kept::cells(kinds, numbers, out)
@@ -130,13 +182,16 @@ fn read_table(
         &mut kinds[..n],
         &mut numbers[..m],
         rows,
+        desk.pool,
         out,
     );
     desk.leaves(left, 5)
 }
 
 // `read LONG LAYOUT BYTES`
-pub fn read(s: &[u8], at: usize, desk: Desk, out: &mut [u8]) -> Desk {
+pub fn read(s: &[u8], at: usize, desk: Desk, out: &mut [u8]) -> Desk
+    ensures { λ r. ⌜ length (now (out .exit)) ≡ length (now (out .entry)) ⌝ }
+{
     let mut stream = stream_room();
     let n = bytes_in(s, next(s, next(s, at)), &mut stream);
     let made = laid(s, at);
@@ -205,58 +260,6 @@ fn walk(table: Table, stream: &[u8], kinds: &mut [u8], values: &mut [i32]) -> us
     n
 }
 
-fn value_out(
-    kind: u8,
-    number: i32,
-    pool: StringPool,
-    lengths: &[u32],
-    counts: &[u16],
-    text: &[u8],
-) {
-    if kind == 2 {
-        shown::text(pool.get(lengths, counts, text, number));
-        return;
-    }
-    shown::cell(kind, number);
-}
-
-fn values_out(
-    kinds: &[u8],
-    values: &[i32],
-    pool: StringPool,
-    lengths: &[u32],
-    counts: &[u16],
-    text: &[u8],
-) {
-    for i in 0..kinds.len() {
-        if values.len() <= i {
-            return;
-        }
-        comma(i);
-        value_out(kinds[i], values[i], pool, lengths, counts, text);
-    }
-}
-
-fn values(
-    kinds: &[u8],
-    values: &[i32],
-    pool: StringPool,
-    lengths: &[u32],
-    counts: &[u16],
-    text: &[u8],
-) {
-    if kinds.len() == 0 {
-        shown::say(b"-");
-        return;
-    }
-    if are_long(kinds, values) {
-        values_out(front(kinds, 1), values, pool, lengths, counts, text);
-        shown::times(kinds.len());
-        return;
-    }
-    values_out(kinds, values, pool, lengths, counts, text);
-}
-
 // A pool that is not sound shows nothing of a cell.
 fn judged(pool: StringPool, lengths: &[u32], counts: &[u16], text: &[u8], cells: usize) -> bool {
     if cells == 0 {
@@ -285,12 +288,17 @@ fn walked(
     let mut numbers = numbers_room();
     let cells = walk(table, stream, &mut kinds, &mut numbers);
     if judged(pool, lengths, counts, text, cells) {
-        shown::say(b"ok ");
-        shown::number(rows);
-        shown::say(b" ");
-        let n = places::bytes(&kinds, cells);
-        let m = places::numbers(&numbers, cells);
-        values(&kinds[..n], &numbers[..m], pool, lengths, counts, text);
+        cells_out(
+            rows,
+            &kinds,
+            &numbers,
+            cells,
+            true,
+            pool,
+            lengths,
+            counts,
+            text,
+        );
     }
 }
 

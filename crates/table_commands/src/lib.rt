@@ -67,7 +67,9 @@ fn write_cells(s: &[u8], at: usize, table: Table, desk: Desk, out: &mut [u8]) ->
 }
 
 // `write LONG LAYOUT ROWS CELLS`
-pub fn write(s: &[u8], at: usize, desk: Desk, out: &mut [u8]) -> Desk {
+pub fn write(s: &[u8], at: usize, desk: Desk, out: &mut [u8]) -> Desk
+    ensures { λ r. ⌜ length (now (out .exit)) ≡ length (now (out .entry)) ⌝ }
+{
     let made = laid(s, at);
     let answer = made.answer;
     match answer {

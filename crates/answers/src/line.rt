@@ -3,11 +3,74 @@ use crate::names;
 use commands::numbers;
 use commands::places;
 use commands::shown;
-use commands::words::is;
+use commands::words::WORD;
+use commands::words::byte;
+use commands::words::end_of;
 use commands::words::next;
 use common::Made;
 use common::StringRef;
+use pool_commands::COUNT;
+use pool_commands::DROP;
+use pool_commands::LOAD;
+use pool_commands::NEW;
+use pool_commands::PAGE;
+use pool_commands::STATE;
+use pool_commands::SUM;
+use pool_commands::TAKE;
+use pool_commands::WDATA;
+use pool_commands::WPOOL;
 use room_commands::Desk;
+use value_commands::CREATE;
+use value_commands::REMOVE;
+use value_commands::SHOW;
+use value_commands::VALUE;
+ghost use Prim.Native.Nat.{_<_};
+
+// Commands, each the bytes of its word as one number, the first byte the highest.
+const LEND: u64 = 0x6c656e64;
+
+const ROWS: u64 = 0x726f7773;
+
+const HOLD: u64 = 0x686f6c64;
+
+const HELD: u64 = 0x68656c64;
+
+const ENC: u64 = 0x656e63;
+
+const DEC: u64 = 0x646563;
+
+const VALID: u64 = 0x76616c6964;
+
+const REF: u64 = 0x726566;
+
+const OUT: u64 = 0x6f7574;
+
+const POOL: u64 = 0x706f6f6c;
+
+const READ: u64 = 0x72656164;
+
+const WRITE: u64 = 0x7772697465;
+
+const PLACE: u64 = 0x706c616365;
+
+const COL: u64 = 0x636f6c;
+
+const CHECK: u64 = 0x636865636b;
+
+fn wide(b: u8) -> u64
+    ensures { λ r. ⌜ r < 256 ⌝ }
+{
+    b as u64
+}
+
+// The word at `at` as such a number; of a word of more than eight bytes, which is no command's, the last eight.
+fn word(s: &[u8], at: usize) -> u64 {
+    let mut sum: u64 = 0;
+    for i in at..end_of(s, at, WORD) {
+        sum = sum % 72_057_594_037_927_936 * 256 + wide(byte(s, i));
+    }
+    sum
+}
 
 // `ref N`
 fn reference(s: &[u8], at: usize) {
@@ -21,85 +84,59 @@ fn reference(s: &[u8], at: usize) {
     }
 }
 
-fn tables(s: &[u8], at: usize, desk: Desk, out: &mut [u8]) -> Desk {
-    let word = next(s, at);
-    if is(s, at, b"read") {
-        return row_commands::read(s, word, desk, out);
-    }
-    if is(s, at, b"write") {
-        return table_commands::write(s, word, desk, out);
-    }
-    if is(s, at, b"place") {
-        row_commands::place(s, word);
-        return desk;
-    }
-    if is(s, at, b"col") {
-        table_commands::columns::made(s, word);
-        return desk;
-    }
-    if is(s, at, b"check") {
-        table_commands::columns::checked(s, word);
-        return desk;
-    }
-    shown::say(b"bad");
-    desk
-}
-
 // The commands that no pool is lent to.
-fn plain(s: &[u8], at: usize, desk: Desk, out: &mut [u8]) -> Desk {
-    let word = next(s, at);
-    if is(s, at, b"enc") {
-        return names::encode(s, word, desk, out);
+fn plain(word: u64, s: &[u8], at: usize, desk: Desk, out: &mut [u8]) -> Desk {
+    match word {
+        ENC | DEC => return names::changed(word == ENC, s, at, desk, out),
+        OUT => return room_commands::out(s, at, desk),
+        POOL => return room_commands::pool(s, at, desk),
+        READ => return row_commands::read(s, at, desk, out),
+        WRITE => return table_commands::write(s, at, desk, out),
+        VALID => names::is_valid(s, at),
+        REF => reference(s, at),
+        PLACE => row_commands::place(s, at),
+        COL => table_commands::columns::made(s, at),
+        CHECK => table_commands::columns::checked(s, at),
+        _ => shown::say(b"bad"),
     }
-    if is(s, at, b"dec") {
-        return names::decode(s, word, desk, out);
-    }
-    if is(s, at, b"valid") {
-        names::is_valid(s, word);
-        return desk;
-    }
-    if is(s, at, b"ref") {
-        reference(s, word);
-        return desk;
-    }
-    if is(s, at, b"out") {
-        return room_commands::out(s, word, desk);
-    }
-    if is(s, at, b"pool") {
-        return room_commands::pool(s, word, desk);
-    }
-    tables(s, at, desk, out)
+    desk
 }
 
 // The rooms are those that are lent.
 fn lent(
     s: &[u8],
-    at: usize,
+    line: usize,
     desk: Desk,
     lengths: &mut [u32],
     counts: &mut [u16],
     text: &mut [u8],
     out: &mut [u8],
 ) -> Desk {
-    if pool_commands::changes(s, at) {
-        return pool_commands::change(s, at, desk, lengths, counts, text);
+    let word = word(s, line);
+    let at = next(s, line);
+    match word {
+        LOAD | TAKE | DROP => pool_commands::change(word, s, at, desk, lengths, counts, text),
+        NEW | PAGE | COUNT | STATE | SUM | WPOOL | WDATA => {
+            pool_commands::read(word, s, at, desk, lengths, counts, text, out)
+        }
+        CREATE | REMOVE | VALUE => {
+            value_commands::answer(word, s, at, desk, lengths, counts, text, out)
+        }
+        SHOW => value_commands::show(s, at, desk, lengths, counts, text, out),
+        ROWS => {
+            row_commands::rows(s, at, desk.pool, lengths, counts, text);
+            desk
+        }
+        HOLD => {
+            room_commands::hold::hold(s, at, lengths, counts, text);
+            desk
+        }
+        HELD => {
+            room_commands::held::held(s, line, desk, lengths, counts, text, out);
+            desk
+        }
+        _ => plain(word, s, at, desk, out),
     }
-    if pool_commands::reads(s, at) {
-        return pool_commands::read(s, at, desk, lengths, counts, text, out);
-    }
-    if is(s, at, b"rows") {
-        row_commands::rows(s, next(s, at), desk.pool, lengths, counts, text);
-        return desk;
-    }
-    if is(s, at, b"hold") {
-        room_commands::hold::hold(s, next(s, at), lengths, counts, text);
-        return desk;
-    }
-    if is(s, at, b"held") {
-        room_commands::held::held(s, at, desk, lengths, counts, text, out);
-        return desk;
-    }
-    plain(s, at, desk, out)
 }
 
 pub(crate) fn answer(
@@ -111,7 +148,7 @@ pub(crate) fn answer(
     text: &mut [u8],
     out: &mut [u8],
 ) -> Desk {
-    if is(s, at, b"lend") {
+    if word(s, at) == LEND {
         return room_commands::lend::lend(s, next(s, at), desk, lengths, counts, text);
     }
     let l = places::lengths(lengths, desk.lengths);

@@ -4,10 +4,10 @@ use commands::places;
 use commands::shown;
 use commands::shown::Form;
 use commands::words::byte;
-use commands::words::bytes_in;
 use commands::words::front;
 use commands::words::next;
 use commands::words::product;
+use pool_commands::bytes_at;
 use room_commands::Desk;
 use streamname::Decoded;
 use streamname::Encoded;
@@ -48,7 +48,7 @@ fn name_in(s: &[u8], at: usize, out: &mut [u16]) -> usize
     ensures { λ r. ⌜ r ≤ length (now (out .exit)) ⌝ }
 {
     let mut bytes = [0u8; 131080];
-    let n = bytes_in(s, at, &mut bytes);
+    let n = bytes_at(s, at, &mut bytes);
     units_in(front(&bytes, n), out)
 }
 
@@ -77,16 +77,6 @@ fn encoded(name: &[u16], is_table: bool, units: &mut [u16], out: &mut [u8]) -> u
     left
 }
 
-pub(crate) fn encode(s: &[u8], at: usize, desk: Desk, out: &mut [u8]) -> Desk {
-    let mut name = [0u16; 65540];
-    let mut units = [0xEEEEu16; 131080];
-    let given = name_in(s, next(s, at), &mut name);
-    let n = places::units(&name, given);
-    let m = places::units(&units, desk.output(one_more(n)));
-    let left = encoded(&name[..n], byte(s, at) == b'1', &mut units[..m], out);
-    desk.leaves(left, 2)
-}
-
 fn decoded(stored: &[u16], units: &mut [u16], out: &mut [u8]) -> usize {
     let answer = streamname::decode(stored, units);
     let left = kept::units(units, out);
@@ -105,24 +95,37 @@ fn decoded(stored: &[u16], units: &mut [u16], out: &mut [u8]) -> usize {
     left
 }
 
-pub(crate) fn decode(s: &[u8], at: usize, desk: Desk, out: &mut [u8]) -> Desk {
-    let mut stored = [0u16; 65540];
-    let mut units = [0xEEEEu16; 131080];
-    let given = name_in(s, at, &mut stored);
-    let n = places::units(&stored, given);
-    let m = places::units(&units, desk.output(product(n, 2)));
-    let left = decoded(&stored[..n], &mut units[..m], out);
-    desk.leaves(left, 2)
-}
-
-pub(crate) fn is_valid(s: &[u8], at: usize) {
-    let mut name = [0u16; 65540];
-    let given = name_in(s, next(s, at), &mut name);
-    let n = places::units(&name, given);
-    let answer = streamname::is_valid(&name[..n], byte(s, at) == b'1');
+fn valid(name: &[u16], is_table: bool) {
+    let answer = streamname::is_valid(name, is_table);
     match answer {
         Validity::Valid => shown::say(b"ok 1"),
         Validity::Invalid => shown::say(b"ok 0"),
         Validity::Refused(why) => shown::refused(why),
     }
+}
+
+// `valid FLAG UNITS`
+pub(crate) fn is_valid(s: &[u8], at: usize) {
+    let mut name = [0u16; 65540];
+    let given = name_in(s, next(s, at), &mut name);
+    let n = places::units(&name, given);
+    valid(&name[..n], byte(s, at) == b'1');
+}
+
+// `enc FLAG UNITS`, `dec UNITS`
+pub(crate) fn changed(encodes: bool, s: &[u8], at: usize, desk: Desk, out: &mut [u8]) -> Desk {
+    let mut name = [0u16; 65540];
+    let mut units = [0xEEEEu16; 131080];
+    if encodes {
+        let given = name_in(s, next(s, at), &mut name);
+        let n = places::units(&name, given);
+        let m = places::units(&units, desk.output(one_more(n)));
+        let left = encoded(&name[..n], byte(s, at) == b'1', &mut units[..m], out);
+        return desk.leaves(left, 2);
+    }
+    let given = name_in(s, at, &mut name);
+    let n = places::units(&name, given);
+    let m = places::units(&units, desk.output(product(n, 2)));
+    let left = decoded(&name[..n], &mut units[..m], out);
+    desk.leaves(left, 2)
 }

@@ -1,59 +1,37 @@
-// Commands on the pool and on values in it.
+// Commands on the pool.
 mod adler;
 mod pools;
-mod values;
 mod written;
 
-use commands::words::is;
-use commands::words::next;
+use commands::shown;
+use commands::words::bytes_in;
 use room_commands::Desk;
+use stringpool::Pooled;
 
-pub fn changes(s: &[u8], at: usize) -> bool {
-    if is(s, at, b"new") {
-        return true;
-    }
-    if is(s, at, b"load") {
-        return true;
-    }
-    if is(s, at, b"page") {
-        return true;
-    }
-    if is(s, at, b"take") {
-        return true;
-    }
-    if is(s, at, b"drop") {
-        return true;
-    }
-    if is(s, at, b"create") {
-        return true;
-    }
-    is(s, at, b"remove")
-}
+// Commands, each the bytes of its word as one number, the first byte the highest.
+pub const NEW: u64 = 0x6e6577;
 
-pub fn reads(s: &[u8], at: usize) -> bool {
-    if is(s, at, b"show") {
-        return true;
-    }
-    if is(s, at, b"value") {
-        return true;
-    }
-    if is(s, at, b"count") {
-        return true;
-    }
-    if is(s, at, b"state") {
-        return true;
-    }
-    if is(s, at, b"sum") {
-        return true;
-    }
-    if is(s, at, b"wpool") {
-        return true;
-    }
-    is(s, at, b"wdata")
-}
+pub const LOAD: u64 = 0x6c6f6164;
 
-// The commands that may change the pool.
+pub const PAGE: u64 = 0x70616765;
+
+pub const TAKE: u64 = 0x74616b65;
+
+pub const DROP: u64 = 0x64726f70;
+
+pub const COUNT: u64 = 0x636f756e74;
+
+pub const STATE: u64 = 0x7374617465;
+
+pub const SUM: u64 = 0x73756d;
+
+pub const WPOOL: u64 = 0x77706f6f6c;
+
+pub const WDATA: u64 = 0x7764617461;
+
+// The commands that may change the rooms.
 pub fn change(
+    word: u64,
     s: &[u8],
     at: usize,
     desk: Desk,
@@ -61,30 +39,16 @@ pub fn change(
     counts: &mut [u16],
     text: &mut [u8],
 ) -> Desk {
-    let word = next(s, at);
-    if is(s, at, b"new") {
-        return pools::new(s, word, desk);
+    match word {
+        LOAD => pools::load(s, at, desk, lengths, counts, text),
+        TAKE => pools::take(s, at, desk, lengths, counts, text),
+        _ => pools::drop(s, at, desk, lengths, counts, text),
     }
-    if is(s, at, b"load") {
-        return pools::load(s, word, desk, lengths, counts, text);
-    }
-    if is(s, at, b"page") {
-        return pools::page(s, word, desk, lengths, counts, text);
-    }
-    if is(s, at, b"take") {
-        return pools::take(s, word, desk, lengths, counts, text);
-    }
-    if is(s, at, b"drop") {
-        return pools::drop(s, word, desk, lengths, counts, text);
-    }
-    if is(s, at, b"create") {
-        return values::create(s, word, desk, lengths, counts, text);
-    }
-    values::remove(s, word, desk, lengths, counts, text)
 }
 
-// The commands that read the pool, with the output that they leave.
+// The commands that only read the rooms, with the output that they leave.
 pub fn read(
+    word: u64,
     s: &[u8],
     at: usize,
     desk: Desk,
@@ -93,23 +57,34 @@ pub fn read(
     text: &[u8],
     out: &mut [u8],
 ) -> Desk {
-    let word = next(s, at);
-    if is(s, at, b"show") {
-        return values::show(s, word, desk, lengths, counts, text, out);
+    match word {
+        NEW => pools::new(s, at, desk),
+        PAGE => pools::page(s, at, desk, lengths, counts, text),
+        COUNT => pools::count(s, at, desk, lengths, counts, text),
+        STATE => {
+            pools::state(desk.pool);
+            desk
+        }
+        SUM => written::sum(desk, lengths, counts, text, out),
+        _ => written::write(word == WPOOL, desk, lengths, counts, text, out),
     }
-    if is(s, at, b"value") {
-        return values::value(s, word, desk, lengths, counts, text, out);
+}
+
+// The pool after a call that answers nothing else.
+pub fn pooled(answer: Pooled, desk: Desk) -> Desk {
+    match answer {
+        Pooled::Is(made) => {
+            shown::say(b"ok");
+            desk.with_pool(made)
+        }
+        Pooled::Refused(why) => {
+            shown::refused(why);
+            desk
+        }
     }
-    if is(s, at, b"count") {
-        pools::count(s, word, desk.pool, lengths, counts, text);
-        return desk;
-    }
-    if is(s, at, b"state") {
-        pools::state(desk.pool);
-        return desk;
-    }
-    if is(s, at, b"sum") {
-        return written::sum(desk, lengths, counts, text, out);
-    }
-    written::write(is(s, at, b"wpool"), desk, lengths, counts, text, out)
+}
+
+// The bytes of the word at `at`, as many as there is room for: how many those are.
+pub fn bytes_at(s: &[u8], at: usize, out: &mut [u8]) -> usize {
+    bytes_in(s, at, out)
 }

@@ -1,7 +1,8 @@
 // Commands on the pool.
+use crate::bytes_at;
+use crate::pooled;
 use commands::numbers;
 use commands::shown;
-use commands::words::bytes_in;
 use commands::words::front;
 use commands::words::next;
 use room_commands::Desk;
@@ -17,19 +18,6 @@ pub(crate) fn state(pool: StringPool) {
     shown::flag(pool.long_string_refs);
     shown::say(b" ");
     shown::number(pool.num_strings);
-}
-
-fn pooled(answer: Pooled, desk: Desk) -> Desk {
-    match answer {
-        Pooled::Is(made) => {
-            shown::say(b"ok");
-            desk.with_pool(made)
-        }
-        Pooled::Refused(why) => {
-            shown::refused(why);
-            desk
-        }
-    }
 }
 
 pub(crate) fn new(s: &[u8], at: usize, desk: Desk) -> Desk {
@@ -59,10 +47,10 @@ pub(crate) fn load(
     counts: &mut [u16],
     text: &mut [u8],
 ) -> Desk {
-    let mut stream = [0u8; 300000];
-    let mut data = [0u8; 140000];
-    let n = bytes_in(s, at, &mut stream);
-    let m = bytes_in(s, next(s, at), &mut data);
+    let mut stream = [0u8; 262160];
+    let mut data = [0u8; 70016];
+    let n = bytes_at(s, at, &mut stream);
+    let m = bytes_at(s, next(s, at), &mut data);
     let answer = StringPool::load(front(&stream, n), front(&data, m), lengths, counts, text);
     match answer {
         Pooled::Is(made) => {
@@ -84,8 +72,8 @@ pub(crate) fn take(
     counts: &mut [u16],
     text: &mut [u8],
 ) -> Desk {
-    let mut new = [0u8; 140000];
-    let n = bytes_in(s, at, &mut new);
+    let mut new = [0u8; 70016];
+    let n = bytes_at(s, at, &mut new);
     let pool = desk.pool;
     let answer = pool.incref(lengths, counts, text, front(&new, n));
     match answer {
@@ -101,19 +89,6 @@ pub(crate) fn take(
     }
 }
 
-pub(crate) fn dropped(answer: Pooled, desk: Desk) -> Desk {
-    match answer {
-        Pooled::Is(after) => {
-            shown::say(b"ok");
-            desk.with_pool(after)
-        }
-        Pooled::Refused(why) => {
-            shown::refused(why);
-            desk
-        }
-    }
-}
-
 pub(crate) fn drop(
     s: &[u8],
     at: usize,
@@ -123,7 +98,7 @@ pub(crate) fn drop(
     text: &mut [u8],
 ) -> Desk {
     let pool = desk.pool;
-    dropped(
+    pooled(
         pool.decref(lengths, counts, text, numbers::signed_at(s, at)),
         desk,
     )
@@ -132,11 +107,12 @@ pub(crate) fn drop(
 pub(crate) fn count(
     s: &[u8],
     at: usize,
-    pool: StringPool,
+    desk: Desk,
     lengths: &[u32],
     counts: &[u16],
     text: &[u8],
-) {
+) -> Desk {
+    let pool = desk.pool;
     let answer = pool.refcount(lengths, counts, text, numbers::signed_at(s, at));
     match answer {
         Counted::Is(n) => {
@@ -145,4 +121,5 @@ pub(crate) fn count(
         }
         Counted::Refused(why) => shown::refused(why),
     }
+    desk
 }

@@ -8,12 +8,29 @@ use room_commands::Desk;
 use stringpool::StringPool;
 use stringpool::Written;
 
-// What the pool stream has at most: four bytes, and eight for each entry.
-fn pool_places(entries: usize) -> usize {
+// What a stream has at most: the pool stream four bytes, and eight for each entry; the data stream the text.
+fn enough(first: bool, entries: usize, bytes: usize) -> usize {
+    if !first {
+        return bytes;
+    }
     if entries > 70_000 {
         return 560_004;
     }
     8 * entries + 4
+}
+
+fn stream(
+    first: bool,
+    pool: StringPool,
+    lengths: &[u32],
+    counts: &[u16],
+    text: &[u8],
+    out: &mut [u8],
+) -> Written {
+    if first {
+        return pool.write_pool(lengths, counts, text, out);
+    }
+    pool.write_data(lengths, counts, text, out)
 }
 
 fn written(answer: Written, out: &[u8]) {
@@ -36,17 +53,16 @@ pub(crate) fn write(
     out: &mut [u8],
 ) -> Desk {
     let pool = desk.pool;
-    if first {
-        let n = places::bytes(out, desk.output(pool_places(pool.num_strings)));
-        kept::fill(&mut out[..n]);
-        let m = places::bytes(out, n);
-        written(pool.write_pool(lengths, counts, text, &mut out[..m]), out);
-        return desk.leaves(n, 1);
-    }
-    let n = places::bytes(out, desk.output(text.len()));
+    let n = places::bytes(
+        out,
+        desk.output(enough(first, pool.num_strings, text.len())),
+    );
     kept::fill(&mut out[..n]);
     let m = places::bytes(out, n);
-    written(pool.write_data(lengths, counts, text, &mut out[..m]), out);
+    written(
+        stream(first, pool, lengths, counts, text, &mut out[..m]),
+        out,
+    );
     desk.leaves(n, 1)
 }
 

@@ -1,5 +1,4 @@
 // Commands on values: what the pool has for a text, and what it shows of a reference.
-use crate::pools::dropped;
 use cell::Value;
 use cell::ValueRef;
 use commands::kept;
@@ -9,15 +8,25 @@ use commands::numbers;
 use commands::places;
 use commands::shown;
 use commands::words::after;
-use commands::words::bytes_in;
 use commands::words::front;
 use common::Refusal;
 use common::StringRef;
+use pool_commands::bytes_at;
+use pool_commands::pooled;
 use pool_values::Created;
 use pool_values::Shown;
 use room_commands::Desk;
 use stringpool::Showable;
 use stringpool::StringPool;
+
+// Commands, each the bytes of its word as one number, the first byte the highest.
+pub const CREATE: u64 = 0x637265617465;
+
+pub const REMOVE: u64 = 0x72656d6f7665;
+
+pub const VALUE: u64 = 0x76616c7565;
+
+pub const SHOW: u64 = 0x73686f77;
 
 // The answer to a kind that there is not, of a pool that is sound.
 fn unknown(pool: StringPool, lengths: &[u32], counts: &[u16], text: &[u8]) {
@@ -50,7 +59,8 @@ fn reference_of(cell: Cell) -> ValueRef {
     }
 }
 
-pub(crate) fn create(
+fn create(
+    cell: Cell,
     s: &[u8],
     at: usize,
     desk: Desk,
@@ -58,14 +68,9 @@ pub(crate) fn create(
     counts: &mut [u16],
     text: &mut [u8],
 ) -> Desk {
-    let cell = cell_at(s, at);
     let pool = desk.pool;
-    if cell.kind > 3 {
-        unknown(pool, lengths, counts, text);
-        return desk;
-    }
-    let mut new = [0u8; 140000];
-    let n = bytes_in(s, after(s, at), &mut new);
+    let mut new = [0u8; 70016];
+    let n = bytes_at(s, after(s, at), &mut new);
     let answer = pool_values::create(value_of(cell), front(&new, n), pool, lengths, counts, text);
     match answer {
         Created::Value(made, after) => {
@@ -80,21 +85,15 @@ pub(crate) fn create(
     }
 }
 
-pub(crate) fn remove(
-    s: &[u8],
-    at: usize,
+fn remove(
+    cell: Cell,
     desk: Desk,
     lengths: &mut [u32],
     counts: &mut [u16],
     text: &mut [u8],
 ) -> Desk {
-    let cell = cell_at(s, at);
     let pool = desk.pool;
-    if cell.kind > 3 {
-        unknown(pool, lengths, counts, text);
-        return desk;
-    }
-    dropped(
+    pooled(
         pool_values::remove(reference_of(cell), pool, lengths, counts, text),
         desk,
     )
@@ -129,7 +128,8 @@ fn untouched(desk: Desk, out: &mut [u8]) -> Desk {
     desk.leaves(n, 1)
 }
 
-pub(crate) fn show(
+// `show N`
+pub fn show(
     s: &[u8],
     at: usize,
     desk: Desk,
@@ -163,7 +163,7 @@ fn plain(value: Value) {
     }
 }
 
-fn valued(
+fn value(
     cell: Cell,
     desk: Desk,
     lengths: &[u32],
@@ -194,13 +194,15 @@ fn valued(
     }
 }
 
-pub(crate) fn value(
+// `create`, `remove`, `value`
+pub fn answer(
+    word: u64,
     s: &[u8],
     at: usize,
     desk: Desk,
-    lengths: &[u32],
-    counts: &[u16],
-    text: &[u8],
+    lengths: &mut [u32],
+    counts: &mut [u16],
+    text: &mut [u8],
     out: &mut [u8],
 ) -> Desk {
     let cell = cell_at(s, at);
@@ -208,5 +210,9 @@ pub(crate) fn value(
         unknown(desk.pool, lengths, counts, text);
         return desk;
     }
-    valued(cell, desk, lengths, counts, text, out)
+    match word {
+        CREATE => create(cell, s, at, desk, lengths, counts, text),
+        REMOVE => remove(cell, desk, lengths, counts, text),
+        _ => value(cell, desk, lengths, counts, text, out),
+    }
 }

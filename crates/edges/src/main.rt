@@ -2,7 +2,7 @@
 use libc::STDIN_FILENO;
 
 fn main() {
-    let mut s = [0u8; 524288];
+    let mut s = [0u8; 32768];
     let used = io::read_full(STDIN_FILENO, &mut s);
     answers::lines(&s[..used]);
 }

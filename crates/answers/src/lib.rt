@@ -52,9 +52,26 @@ fn each(s: &[u8], lengths: &mut [u32], counts: &mut [u16], text: &mut [u8], out:
 
 // Answers each line of a text, with one pool.
 pub fn lines(s: &[u8]) {
-    let mut lengths = [0xEEEE_EEEEu32; 65600];
-    let mut counts = [0xEEEEu16; 65600];
-    let mut text = [0xEEu8; 131072];
-    let mut out = [0xEEu8; 600000];
+    let mut lengths = lengths_room();
+    let mut counts = counts_room();
+    let mut text = text_room();
+    let mut out = output_room();
     each(s, &mut lengths, &mut counts, &mut text, &mut out);
+}
+
+// An array that a call gives back is known by its size, and not place by place.
+fn lengths_room() -> [u32; 65600] {
+    [0xEEEE_EEEEu32; 65600]
+}
+
+fn counts_room() -> [u16; 65600] {
+    [0xEEEEu16; 65600]
+}
+
+fn text_room() -> [u8; 131072] {
+    [0xEEu8; 131072]
+}
+
+fn output_room() -> [u8; 600000] {
+    [0xEEu8; 600000]
 }

@@ -47,7 +47,7 @@ fn units_in(bytes: &[u8], out: &mut [u16]) -> usize
 fn name_in(s: &[u8], at: usize, out: &mut [u16]) -> usize
     ensures { λ r. ⌜ r ≤ length (now (out .exit)) ⌝ }
 {
-    let mut bytes = [0u8; 131080];
+    let mut bytes = bytes_room();
     let n = bytes_at(s, at, &mut bytes);
     units_in(front(&bytes, n), out)
 }
@@ -106,7 +106,7 @@ fn valid(name: &[u16], is_table: bool) {
 
 // `valid FLAG UNITS`
 pub(crate) fn is_valid(s: &[u8], at: usize) {
-    let mut name = [0u16; 65540];
+    let mut name = name_room();
     let given = name_in(s, next(s, at), &mut name);
     let n = places::units(&name, given);
     valid(&name[..n], byte(s, at) == b'1');
@@ -114,8 +114,8 @@ pub(crate) fn is_valid(s: &[u8], at: usize) {
 
 // `enc FLAG UNITS`, `dec UNITS`
 pub(crate) fn changed(encodes: bool, s: &[u8], at: usize, desk: Desk, out: &mut [u8]) -> Desk {
-    let mut name = [0u16; 65540];
-    let mut units = [0xEEEEu16; 131080];
+    let mut name = name_room();
+    let mut units = units_room();
     if encodes {
         let given = name_in(s, next(s, at), &mut name);
         let n = places::units(&name, given);
@@ -128,4 +128,17 @@ pub(crate) fn changed(encodes: bool, s: &[u8], at: usize, desk: Desk, out: &mut 
     let m = places::units(&units, desk.output(product(n, 2)));
     let left = decoded(&name[..n], &mut units[..m], out);
     desk.leaves(left, 2)
+}
+
+// As the rooms of crate::lines.
+fn bytes_room() -> [u8; 131080] {
+    [0u8; 131080]
+}
+
+fn name_room() -> [u16; 65540] {
+    [0u16; 65540]
+}
+
+fn units_room() -> [u16; 131080] {
+    [0xEEEEu16; 131080]
 }

@@ -47,8 +47,8 @@ pub(crate) fn load(
     counts: &mut [u16],
     text: &mut [u8],
 ) -> Desk {
-    let mut stream = [0u8; 262160];
-    let mut data = [0u8; 70016];
+    let mut stream = stream_room();
+    let mut data = text_room();
     let n = bytes_at(s, at, &mut stream);
     let m = bytes_at(s, next(s, at), &mut data);
     let answer = StringPool::load(front(&stream, n), front(&data, m), lengths, counts, text);
@@ -72,7 +72,7 @@ pub(crate) fn take(
     counts: &mut [u16],
     text: &mut [u8],
 ) -> Desk {
-    let mut new = [0u8; 70016];
+    let mut new = text_room();
     let n = bytes_at(s, at, &mut new);
     let pool = desk.pool;
     let answer = pool.incref(lengths, counts, text, front(&new, n));
@@ -122,4 +122,13 @@ pub(crate) fn count(
         Counted::Refused(why) => shown::refused(why),
     }
     desk
+}
+
+// An array that a call gives back is known by its size, and not place by place.
+fn stream_room() -> [u8; 262160] {
+    [0u8; 262160]
+}
+
+fn text_room() -> [u8; 70016] {
+    [0u8; 70016]
 }

@@ -69,7 +69,7 @@ fn create(
     text: &mut [u8],
 ) -> Desk {
     let pool = desk.pool;
-    let mut new = [0u8; 70016];
+    let mut new = text_room();
     let n = bytes_at(s, after(s, at), &mut new);
     let answer = pool_values::create(value_of(cell), front(&new, n), pool, lengths, counts, text);
     match answer {
@@ -215,4 +215,9 @@ pub fn answer(
         REMOVE => remove(cell, desk, lengths, counts, text),
         _ => value(cell, desk, lengths, counts, text, out),
     }
+}
+
+// An array that a call gives back is known by its size, and not place by place.
+fn text_room() -> [u8; 70016] {
+    [0u8; 70016]
 }

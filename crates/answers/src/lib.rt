@@ -1,6 +1,5 @@
 // The command language of desk/PROTOCOL.md, answered line by line by the calls of the port, on standard output.
 mod line;
-mod names;
 
 use commands::shown;
 use commands::words::LINE;

@@ -1,14 +1,10 @@
 // The command on a line, by its first word.
-use crate::names;
-use commands::numbers;
 use commands::places;
 use commands::shown;
 use commands::words::WORD;
 use commands::words::byte;
 use commands::words::end_of;
 use commands::words::next;
-use common::Made;
-use common::StringRef;
 use pool_commands::COUNT;
 use pool_commands::DROP;
 use pool_commands::LOAD;
@@ -72,28 +68,16 @@ fn word(s: &[u8], at: usize) -> u64 {
     sum
 }
 
-// `ref N`
-fn reference(s: &[u8], at: usize) {
-    let made = StringRef::new(numbers::signed_at(s, at));
-    match made {
-        Made::Ref(r) => {
-            shown::say(b"ok ");
-            numbers::show(r.0);
-        }
-        Made::Refused(why) => shown::refused(why),
-    }
-}
-
 // The commands that no pool is lent to.
 fn plain(word: u64, s: &[u8], at: usize, desk: Desk, out: &mut [u8]) -> Desk {
     match word {
-        ENC | DEC => return names::changed(word == ENC, s, at, desk, out),
+        ENC | DEC => return name_commands::changed(word == ENC, s, at, desk, out),
         OUT => return room_commands::out(s, at, desk),
         POOL => return room_commands::pool(s, at, desk),
         READ => return row_commands::read(s, at, desk, out),
         WRITE => return table_commands::write(s, at, desk, out),
-        VALID => names::is_valid(s, at),
-        REF => reference(s, at),
+        VALID => name_commands::is_valid(s, at),
+        REF => name_commands::reference(s, at),
         PLACE => row_commands::place(s, at),
         COL => table_commands::columns::made(s, at),
         CHECK => table_commands::columns::checked(s, at),

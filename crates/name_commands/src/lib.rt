@@ -1,5 +1,6 @@
-// Commands on stream names.
+// Commands on stream names, and on a reference number by itself.
 use commands::kept;
+use commands::numbers;
 use commands::places;
 use commands::shown;
 use commands::shown::Form;
@@ -7,11 +8,14 @@ use commands::words::byte;
 use commands::words::front;
 use commands::words::next;
 use commands::words::product;
+use common::Made;
+use common::StringRef;
 use pool_commands::bytes_at;
 use room_commands::Desk;
 use streamname::Decoded;
 use streamname::Encoded;
 use streamname::Validity;
+ghost use mathlib.Core.Path.{_≡_};
 ghost use Prim.Native.Nat.{_≤_};
 ghost use lib.ListN.{length};
 
@@ -105,7 +109,9 @@ fn valid(name: &[u16], is_table: bool) {
 }
 
 // `valid FLAG UNITS`
-pub(crate) fn is_valid(s: &[u8], at: usize) {
+pub fn is_valid(s: &[u8], at: usize)
+    ensures { λ r. ⌜ r ≡ tt ⌝ }
+{
     let mut name = name_room();
     let given = name_in(s, next(s, at), &mut name);
     let n = places::units(&name, given);
@@ -113,7 +119,7 @@ pub(crate) fn is_valid(s: &[u8], at: usize) {
 }
 
 // `enc FLAG UNITS`, `dec UNITS`
-pub(crate) fn changed(encodes: bool, s: &[u8], at: usize, desk: Desk, out: &mut [u8]) -> Desk {
+pub fn changed(encodes: bool, s: &[u8], at: usize, desk: Desk, out: &mut [u8]) -> Desk {
     let mut name = name_room();
     let mut units = units_room();
     if encodes {
@@ -130,7 +136,21 @@ pub(crate) fn changed(encodes: bool, s: &[u8], at: usize, desk: Desk, out: &mut 
     desk.leaves(left, 2)
 }
 
-// As the rooms of crate::lines.
+// `ref N`
+pub fn reference(s: &[u8], at: usize)
+    ensures { λ r. ⌜ r ≡ tt ⌝ }
+{
+    let made = StringRef::new(numbers::signed_at(s, at));
+    match made {
+        Made::Ref(r) => {
+            shown::say(b"ok ");
+            numbers::show(r.0);
+        }
+        Made::Refused(why) => shown::refused(why),
+    }
+}
+
+// An array that a call gives back is known by its size, and not place by place.
 fn bytes_room() -> [u8; 131080] {
     [0u8; 131080]
 }

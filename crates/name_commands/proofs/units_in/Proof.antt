@@ -2,8 +2,8 @@ use borrow.Author.Needs.{needs}
 use mathlib.Core.Path.{_≡_}
 use Prim.Native.Nat.{_≤_, _-_}
 use lib.ListN.{length}
-use Rattle.answers.proofs.names.units_in.Statement.{statement}
-use Rattle.answers.proofs.names.units_in.Tie as tie
+use Rattle.name_commands.proofs.units_in.Statement.{statement}
+use Rattle.name_commands.proofs.units_in.Tie as tie
 
 abbrev Inv-loop : tie.InvT-loop
 Inv-loop bytes out₀ n₀ out n = (length out ≡ length out₀) × (n ≤ length out₀)

@@ -2,7 +2,7 @@
  *
  * Every call returns for every input, reads and writes only what it is lent, keeps nothing between calls, and after a refusal
  * has left all lent memory as it was. What each call answers is proved: its contract stands in crates/msi/src, by the
- * definitions in crates/msi_forms/specs. Numbers of refusals are those of document 01; below, each call has its own in the
+ * definitions in crates/c_types/specs. Numbers of refusals are those of document 01; below, each call has its own in the
  * order in which they are judged.
  *
  * What the caller sees to, since no call can:

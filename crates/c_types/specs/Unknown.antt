@@ -1,4 +1,4 @@
--- "16: kind of cell does not suit the column, or is unknown". C hands kinds and types over as numbers: `unknown` of crate value says which
+-- "16: kind of cell does not suit the column, or is unknown". C hands kinds and types over as numbers: `unknown` of crate cell says which
 -- of them are none, of types (0 Int16, 1 Int32, 2 Str, 3 Binary) as of kinds.
 use Prim.Native.Nat.{ℕ}
 use Rattle.common.specs.Choice.{if_then_else_}

@@ -28,7 +28,7 @@ endOf s at upto = at + run upto (drop at s)
 abbrev pub afterEnd : List ℕ → ℕ → ℕ
 afterEnd s end = if end <? length s then end + 1 else end
 
--- a hexadecimal digit's number; 0 for any other byte
+-- a hexadecimal digit's number, letters small; 0 for any other byte
 abbrev pub digitOf : ℕ → ℕ
 digitOf b = if (48 ≤? b) && (b ≤? 57) then b - 48 else if (97 ≤? b) && (b ≤? 102) then b - 97 + 10 else 0
 

@@ -1,5 +1,5 @@
-// Answers as the command language writes them. What is written no contract can say; each function answers nothing, and leaves what
-// it was lent.
+// Answers as the command language writes them. What is written no contract can say; what writes answers nothing, and leaves what it
+// was lent.
 use crate::numbers;
 use common::Place;
 use common::Refusal;

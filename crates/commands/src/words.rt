@@ -184,7 +184,7 @@ fn is_digit(b: u8) -> bool
     b <= b'9'
 }
 
-// The decimal number at `from`; 0 where it has more than ten digits' worth.
+// The decimal number at `from`; 0 where it is 10,000,000,000 or more.
 pub fn number_at(s: &[u8], from: usize) -> u64
     ensures { λ r. ⌜ r ≡ digitsAt (now (s .entry)) from ⌝ }
 {

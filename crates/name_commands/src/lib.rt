@@ -108,7 +108,7 @@ fn valid(name: &[u16], is_table: bool) {
     }
 }
 
-// `valid FLAG UNITS`
+// `valid T UNITS`
 pub fn is_valid(s: &[u8], at: usize)
     ensures { λ r. ⌜ r ≡ tt ⌝ }
 {
@@ -118,7 +118,7 @@ pub fn is_valid(s: &[u8], at: usize)
     valid(&name[..n], byte(s, at) == b'1');
 }
 
-// `enc FLAG UNITS`, `dec UNITS`
+// `enc T UNITS`, `dec UNITS`
 pub fn changed(encodes: bool, s: &[u8], at: usize, desk: Desk, out: &mut [u8]) -> Desk {
     let mut name = name_room();
     let mut units = units_room();
@@ -136,7 +136,7 @@ pub fn changed(encodes: bool, s: &[u8], at: usize, desk: Desk, out: &mut [u8]) -
     desk.leaves(left, 2)
 }
 
-// `ref N`
+// `ref REF`
 pub fn reference(s: &[u8], at: usize)
     ensures { λ r. ⌜ r ≡ tt ⌝ }
 {

@@ -28,7 +28,7 @@ pub const VALUE: u64 = 0x76616c7565;
 
 pub const SHOW: u64 = 0x73686f77;
 
-// The answer to a kind that there is not, of a pool that is sound.
+// The answer to a kind that there is not: 16, after 22 and 24.
 fn unknown(pool: StringPool, lengths: &[u32], counts: &[u16], text: &[u8]) {
     let judged = pool_values::to_value(ValueRef::Null, pool, lengths, counts, text);
     match judged {
@@ -128,7 +128,7 @@ fn untouched(desk: Desk, out: &mut [u8]) -> Desk {
     desk.leaves(n, 1)
 }
 
-// `show N`
+// `show REF`
 pub fn show(
     s: &[u8],
     at: usize,
@@ -150,7 +150,7 @@ pub fn show(
     }
 }
 
-// A value that is no text leaves no output.
+// A value that is no text leaves the last output as it was.
 fn plain(value: Value) {
     match value {
         Value::Null => shown::say(b"ok n"),

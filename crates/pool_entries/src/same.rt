@@ -1,7 +1,7 @@
 // Whether two texts are the same bytes: the last eight first, then eight at a time.
 ghost use mathlib.Core.Path.{_≡_};
 ghost use Prim.Native.Nat.{ℕ, _+_, _≤_, _<_, _^_};
-ghost use mathlib.Core.Bool.{true, false};
+ghost use mathlib.Core.Bool.{false};
 ghost use mathlib.Core.List.{List};
 ghost use lib.ListN.{length, take, drop, getD};
 ghost use Rattle.little_endian.specs.Numbers.{numberAt};
@@ -75,11 +75,22 @@ fn same_from(a: &[u8], b: &[u8], from: usize) -> bool
     true
 }
 
+// Whether an entry whose text is as long as new has the same bytes and can count up.
+fn is_equal(count: u16, text: &[u8], new: &[u8]) -> bool
+    requires { ⌜ length (now text) ≡ length (now new) ⌝ }
+    ensures { λ r. ⌜ r ≡ equal (now (new .entry)) (entry (now (text .entry)) count) ⌝ }
+{
+    if count < 65535 {
+        return same(text, new);
+    }
+    false
+}
+
 // False where the bytes of a text of that size at `at` are not all in the room, or end otherwise than one whose last eight bytes are `word`.
 fn may_be(text: &[u8], at: usize, size: usize, word: u64) -> bool
     requires { ⌜ at + size < 2 ^ 64 ⌝ }
     ensures { λ r. ⌜ (r ≡ false → (t : List ℕ) → length t ≡ size → Ends t word → at + size ≤ length (now (text .entry))
-        → sameBytes (take size (drop at (now (text .entry)))) t ≡ false) × (r ≡ true → at + size ≤ length (now (text .entry))) ⌝ }
+        → sameBytes (take size (drop at (now (text .entry)))) t ≡ false) ⌝ }
 {
     let end = at + size;
     if end > text.len() {
@@ -92,17 +103,26 @@ fn may_be(text: &[u8], at: usize, size: usize, word: u64) -> bool
 }
 
 // Whether the entry at `at` in the text room, as long as new, has the same bytes and can count up; false where its bytes are not all there.
-// `word` is new's end: most texts are told apart by theirs.
+fn same_at(count: u16, text: &[u8], at: usize, new: &[u8]) -> bool
+    requires { ⌜ at + length (now new) < 2 ^ 64 ⌝ }
+    ensures { λ r. ⌜ (at + length (now (new .entry)) ≤ length (now (text .entry))
+        → r ≡ equal (now (new .entry)) (entry (take (length (now (new .entry))) (drop at (now (text .entry)))) count)) ⌝ }
+{
+    let end = at + new.len();
+    if end > text.len() {
+        return false;
+    }
+    is_equal(count, &text[at..end], new)
+}
+
+// The same, where `word` is new's end: most texts are told apart by theirs.
 pub(crate) fn equal_at(count: u16, text: &[u8], at: usize, new: &[u8], word: u64) -> bool
     requires { ⌜ (at + length (now new) < 2 ^ 64) × Ends (now new) word ⌝ }
     ensures { λ r. ⌜ (at + length (now (new .entry)) ≤ length (now (text .entry))
         → r ≡ equal (now (new .entry)) (entry (take (length (now (new .entry))) (drop at (now (text .entry)))) count)) ⌝ }
 {
-    if !may_be(text, at, new.len(), word) {
-        return false;
+    if may_be(text, at, new.len(), word) {
+        return same_at(count, text, at, new);
     }
-    if count >= 65535 {
-        return false;
-    }
-    same(&text[at..at + new.len()], new)
+    false
 }

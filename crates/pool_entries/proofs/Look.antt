@@ -18,7 +18,7 @@ use Rattle.common.specs.Answers.{Answer, gives, refused, nowhere}
 use Rattle.pool_entries.specs.Sound.{onSoundRooms}
 use Rattle.pool_entries.specs.Calls.{spotAt, chooseAnswer}
 use Rattle.pool_entries.specs.Entries.{Entry, entry, Rooms, firstEntries, free}
-use Rattle.pool_entries.specs.Choose.{equal, firstFreeOrEqual}
+use Rattle.pool_entries.specs.Choose.{equal, Chooser, firstFreeOrEqual}
 use Rattle.pool_entries.specs.inner.Fit.{Fit}
 use Rattle.pool_entries.specs.inner.Look.{Counted, FreeAt, Others, SumTo, PassedBy, PassedTo, SmallTo, ScannedTo, ScanIs, FoundIs}
 use Rattle.pool_entries.proofs.Sums.{total-next}
@@ -190,15 +190,14 @@ module _ (n : ℕ) (w : Rooms) (t : List ℕ) where
 
 -- ---- the answer, with the text's size judged first
 
-module _ (n page : ℕ) (w : Rooms) (t : List ℕ) where
-  pub choose-over : 268435455 < length t → refused 22 nowhere ≡ chooseAnswer n page w t
+module _ (choose : Chooser) (n page : ℕ) (w : Rooms) (t : List ℕ) where
+  pub choose-over : 268435455 < length t → refused 22 nowhere ≡ chooseAnswer choose n page w t
   choose-over h = simp (lt-ltb 268435455 (length t) h)
 
-  pub choose-on : length t ≤ 268435455 → onSoundRooms n page w (gives (spotAt n w (firstFreeOrEqual t (firstEntries n w)))) ≡ chooseAnswer n page w t
-  choose-on h = sym (ap (λ (b : Bool). if b then refused 22 nowhere else onSoundRooms n page w (gives (spotAt n w (firstFreeOrEqual t (firstEntries n w))))) (le-ltb 268435455 (length t) h))
+  pub choose-on : length t ≤ 268435455 → onSoundRooms n page w (gives (spotAt n w (choose t (firstEntries n w)))) ≡ chooseAnswer choose n page w t
+  choose-on h = sym (ap (λ (b : Bool). if b then refused 22 nowhere else onSoundRooms n page w (gives (spotAt n w (choose t (firstEntries n w))))) (le-ltb 268435455 (length t) h))
 
   -- what was found in a state that fits
-  pub spot-found : (k s u : ℕ) → FoundIs n w t k s → Fit n w → u ≡ total (take n (w .lengths))
-      → _≡_ {A = Answer (ℕ × ℕ × ℕ)} (gives (k, s, u)) (gives (spotAt n w (firstFreeOrEqual t (firstEntries n w))))
-  spot-found k s u f fit e =
-      ap₂ (λ (a b : ℕ). gives (k, a, b)) (f .scanned .sum .is) e ∙ ap (λ (j : ℕ). gives (spotAt n w j)) (sym (f .chosen fit))
+  pub spot-found : (k s u : ℕ) → k ≡ choose t (firstEntries n w) → s ≡ total (take k (w .lengths)) → u ≡ total (take n (w .lengths))
+      → _≡_ {A = Answer (ℕ × ℕ × ℕ)} (gives (k, s, u)) (gives (spotAt n w (choose t (firstEntries n w))))
+  spot-found k s u f b e = ap₂ (λ (x y : ℕ). gives (k, x, y)) b e ∙ ap (λ (j : ℕ). gives (spotAt n w j)) f

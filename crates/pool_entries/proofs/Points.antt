@@ -13,7 +13,7 @@ use Rattle.pool_entries.specs.Entries.{Entry, rooms, firstEntries, entry
 use Rattle.pool_entries.specs.Sound.{soundRooms}
 use Rattle.pool_entries.specs.inner.Sound.{smallB, fitsB}
 use Rattle.pool_entries.proofs.Sound.{sound-same, judge-size}
-use Rattle.pool_entries.specs.Points.{AsMany, TextAtSize, SizeFirst, TextFirst, EntriesFit, TooMany, CodePage, LengthsSum, FreeBytes, CountsUp, FirstOfThem}
+use Rattle.pool_entries.specs.Points.{AsMany, TextAtSize, SizeFirst, TextFirst, EntriesFit, TooMany, CodePage, LengthsSum, FreeBytes, CountsUp, FirstOfThem, FromOneUp, EqualFirst, ThenFreeThenAdd}
 
 -- one entry, by its length and its count
 one-entry : (ts : List ℕ) (l c : ℕ) (is : Bool) → length ts ≡ l → smallB l c ≡ is → total (l ∷ []) ≡ l → soundRooms 1 0 (rooms (l ∷ []) (c ∷ []) ts) ≡ is
@@ -34,7 +34,7 @@ size-first = (
 )
 
 pub text-first : TextFirst
-text-first n page w t h = simp (lt-ltb 268435455 (length t) h)
+text-first choose n page w t h = simp (lt-ltb 268435455 (length t) h)
 
 pub entries-fit : EntriesFit
 unfolding soundRooms
@@ -66,6 +66,15 @@ pub first-of-them : FirstOfThem
 unfolding soundRooms
 first-of-them = (refl, refl, refl, refl, refl)
 
+pub from-one-up : FromOneUp
+from-one-up = (refl, refl, refl, refl, refl)
+
+pub equal-first : EqualFirst
+equal-first = (refl, refl, refl, refl)
+
+pub then-free-then-add : ThenFreeThenAdd
+then-free-then-add = (refl, refl, refl)
+
 pub as-many : AsMany
 unfolding soundRooms
 as-many n page w h =
@@ -74,4 +83,4 @@ as-many n page w h =
     ∙ ap (λ (b : Bool). b && page ≤? 2147483647 && total (take n (w .lengths)) ≤? length (w .text) && small) (and-true (n ≤? entryRoom w))
 
 pub text-at-size : TextAtSize
-text-at-size n page w t h = simp (le-ltb 268435455 (length t) h)
+text-at-size choose n page w t h = simp (le-ltb 268435455 (length t) h)

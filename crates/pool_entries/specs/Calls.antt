@@ -9,7 +9,7 @@ use Rattle.common.specs.Answers.{Answer, gives, refused, nowhere}
 use Rattle.common.specs.Refusals.{refusedBy}
 use Rattle.pool_entries.specs.Entries.{Rooms, firstEntries}
 use Rattle.pool_entries.specs.Sound.{onSoundRooms}
-use Rattle.pool_entries.specs.Choose.{firstFreeOrEqual}
+use Rattle.pool_entries.specs.Choose.{Chooser}
 use Rattle.pool_entries.specs.declared.judging.State.{State}
 use Rattle.pool_entries.specs.declared.judging.State.the-variants as state
 use Rattle.pool_entries.specs.declared.choosing.Choice.{Choice}
@@ -23,11 +23,11 @@ judgeAnswer n codepage w = onSoundRooms n codepage w (gives (total (take n (w .l
 abbrev pub spotAt : ℕ → Rooms → ℕ → ℕ × ℕ × ℕ
 spotAt n w k = (k, total (take k (w .lengths)), total (take n (w .lengths)))
 
--- 22 for the text and for the text room, then 24; of a sound state, the place that a take chooses
-abbrev pub chooseAnswer : ℕ → ℕ → Rooms → List ℕ → Answer (ℕ × ℕ × ℕ)
-chooseAnswer n codepage w t =
+-- 22 for the text and for the text room, then 24; of a sound state, the place that a take by this choice has
+abbrev pub chooseAnswer : Chooser → ℕ → ℕ → Rooms → List ℕ → Answer (ℕ × ℕ × ℕ)
+chooseAnswer choose n codepage w t =
     if maxBytes <? length t then refused 22 nowhere
-    else onSoundRooms n codepage w (gives (spotAt n w (firstFreeOrEqual t (firstEntries n w))))
+    else onSoundRooms n codepage w (gives (spotAt n w (choose t (firstEntries n w))))
 
 abbrev pub judgedAs : State → Answer ℕ
 judgedAs (state.Sound used) = gives used

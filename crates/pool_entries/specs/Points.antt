@@ -13,7 +13,7 @@ use mathlib.Core.Bool.{not, _||_, _&&_}
 use Rattle.pool_entries.specs.Entries.{Entry, entry, Rooms, rooms, entryRoom, free, all, firstEntries}
 use Rattle.pool_entries.specs.Sound.{soundRooms, onSoundRooms}
 use Rattle.pool_entries.specs.Calls.{judgeAnswer, chooseAnswer, spotAt}
-use Rattle.pool_entries.specs.Choose.{equal, firstFreeOrEqual}
+use Rattle.pool_entries.specs.Choose.{Chooser, equal, firstFreeOrEqual, canCountUp, equalThenFree}
 
 -- ---- 22, then 24
 
@@ -22,9 +22,9 @@ abbrev pub SizeFirst : Type 0
 SizeFirst = ((n codepage : ℕ) (w : Rooms) → maxBytes < length (w .text) → judgeAnswer n codepage w ≡ refused 22 nowhere)
     × ((n codepage : ℕ) (w : Rooms) → length (w .text) ≤ maxBytes → soundRooms n codepage w ≡ true → judgeAnswer n codepage w ≡ gives (total (take n (w .lengths))))
 
--- the same for "texts handed in"
+-- the same for "texts handed in", by any choice
 abbrev pub TextFirst : Type 0
-TextFirst = (n codepage : ℕ) (w : Rooms) (t : List ℕ) → maxBytes < length t → chooseAnswer n codepage w t ≡ refused 22 nowhere
+TextFirst = (choose : Chooser) (n codepage : ℕ) (w : Rooms) (t : List ℕ) → maxBytes < length t → chooseAnswer choose n codepage w t ≡ refused 22 nowhere
 
 -- ---- "24 pool state unsound"
 
@@ -68,6 +68,25 @@ FirstOfThem = (firstFreeOrEqual (65 ∷ []) (entry (66 ∷ []) 1 ∷ entry [] 0 
     × (firstFreeOrEqual (65 ∷ []) (entry (66 ∷ []) 0 ∷ []) ≡ 0)
     × (firstFreeOrEqual (65 ∷ []) (entry (65 ∷ []) 65535 ∷ []) ≡ 1)
 
+-- "an equal entry with a count from 1 to 65,534"
+abbrev pub FromOneUp : Type 0
+FromOneUp = (canCountUp (65 ∷ []) (entry (65 ∷ []) 0) ≡ false) × (canCountUp (65 ∷ []) (entry (65 ∷ []) 1) ≡ true)
+    × (canCountUp (65 ∷ []) (entry (65 ∷ []) 65534) ≡ true) × (canCountUp (65 ∷ []) (entry (65 ∷ []) 65535) ≡ false)
+    × (canCountUp (65 ∷ []) (entry (66 ∷ []) 1) ≡ false)
+
+-- "look for an equal entry .. first": the first of two; past a free one, which with the same bytes is no equal one; past one that is full
+abbrev pub EqualFirst : Type 0
+EqualFirst = (equalThenFree (65 ∷ []) (entry (65 ∷ []) 1 ∷ entry (65 ∷ []) 1 ∷ []) ≡ 0)
+    × (equalThenFree (65 ∷ []) (entry [] 0 ∷ entry (65 ∷ []) 1 ∷ []) ≡ 1)
+    × (equalThenFree (65 ∷ []) (entry (65 ∷ []) 0 ∷ entry (65 ∷ []) 1 ∷ []) ≡ 1)
+    × (equalThenFree (65 ∷ []) (entry (65 ∷ []) 65535 ∷ entry [] 0 ∷ entry (65 ∷ []) 1 ∷ []) ≡ 2)
+
+-- "then the first free one", whatever bytes the free ones hold; "then add"
+abbrev pub ThenFreeThenAdd : Type 0
+ThenFreeThenAdd = (equalThenFree (65 ∷ []) (entry (65 ∷ []) 65535 ∷ entry [] 0 ∷ []) ≡ 1)
+    × (equalThenFree (65 ∷ []) (entry (66 ∷ []) 0 ∷ entry (65 ∷ []) 0 ∷ []) ≡ 0)
+    × (equalThenFree (65 ∷ []) (entry (65 ∷ []) 65535 ∷ entry (66 ∷ []) 1 ∷ []) ≡ 2)
+
 -- "number at most 16,777,215": so many are judged by the other conditions alone
 abbrev pub AsMany : Type 0
 AsMany = (n codepage : ℕ) (w : Rooms) → n ≤ maxEntries
@@ -77,5 +96,5 @@ AsMany = (n codepage : ℕ) (w : Rooms) → n ≤ maxEntries
 
 -- "texts handed in, at most 268,435,455 bytes": one of that size is looked for in a sound state
 abbrev pub TextAtSize : Type 0
-TextAtSize = (n codepage : ℕ) (w : Rooms) (t : List ℕ) → length t ≤ maxBytes
-    → chooseAnswer n codepage w t ≡ onSoundRooms n codepage w (gives (spotAt n w (firstFreeOrEqual t (firstEntries n w))))
+TextAtSize = (choose : Chooser) (n codepage : ℕ) (w : Rooms) (t : List ℕ) → length t ≤ maxBytes
+    → chooseAnswer choose n codepage w t ≡ onSoundRooms n codepage w (gives (spotAt n w (choose t (firstEntries n w))))

@@ -15,6 +15,7 @@ ghost use mathlib.Core.Path.{_≡_};
 ghost use Prim.Native.Nat.{_+_, _≤_, _<_};
 ghost use lib.ListN.{length};
 ghost use Rattle.pool_entries.specs.Entries.{rooms};
+ghost use Rattle.pool_entries.specs.Choose.{firstFreeOrEqual};
 ghost use Rattle.pool_entries.specs.Calls.{chosenAs, chooseAnswer};
 ghost use Rattle.pool_entries.specs.inner.Look.{Ends, Counted, ScannedTo, ScanIs, FoundIs};
 
@@ -100,7 +101,7 @@ pub fn choose(
     text: &[u8],
     new: &[u8],
 ) -> Choice
-    ensures { λ r. ⌜ chosenAs r ≡ chooseAnswer «num_strings» codepage (rooms (now (lengths .entry)) (now (counts .entry)) (now (text .entry))) (now (new .entry)) ⌝ }
+    ensures { λ r. ⌜ chosenAs r ≡ chooseAnswer firstFreeOrEqual «num_strings» codepage (rooms (now (lengths .entry)) (now (counts .entry)) (now (text .entry))) (now (new .entry)) ⌝ }
 {
     if new.len() > MAX_BYTES {
         return Choice::Refused(Refusal::OverSize);

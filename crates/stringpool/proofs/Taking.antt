@@ -204,14 +204,14 @@ module _ (p : StringPool) (w : Rooms) (t : List ℕ) where
   abbrev By : {A : Type 0} → Answer A → Bool → Answer A
   By a b = if b then refused 22 nowhere else onSound p w a
 
-  pub take-refused : (x : Refusal) → refusedBy x ≡ chooseAnswer m (p .codepage) w t → Planned (takeOutcome firstFreeOrEqual p w t) (refusedBy x) (Refused x) w t
+  pub take-refused : (x : Refusal) → refusedBy x ≡ chooseAnswer firstFreeOrEqual m (p .codepage) w t → Planned (takeOutcome firstFreeOrEqual p w t) (refusedBy x) (Refused x) w t
   take-refused x e = refusing x (ap (outcome w) (go (268435455 <? length t) e))
     where
       go : (b : Bool) → refusedBy x ≡ By (gives Spot) b → refusedBy x ≡ By (takeAt p w t first) b
       go true q = same-refusal q
       go false q = call-refused m (p .codepage) w Spot (takeAt p w t first) q
 
-  pub spotted : {y : ℕ × ℕ × ℕ} → gives y ≡ chooseAnswer m (p .codepage) w t → Spotted p w t (y .0) (y .1) (y .2)
+  pub spotted : {y : ℕ × ℕ × ℕ} → gives y ≡ chooseAnswer firstFreeOrEqual m (p .codepage) w t → Spotted p w t (y .0) (y .1) (y .2)
   spotted {y} e = go (268435455 <? length t) refl e
     where
       go : (b : Bool) → (268435455 <? length t) ≡ b → gives y ≡ By (gives Spot) b → Spotted p w t (y .0) (y .1) (y .2)

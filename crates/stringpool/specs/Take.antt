@@ -7,7 +7,7 @@ use Rattle.common.specs.Choice.{if_then_else_, _<?_, _≤?_}
 use Rattle.common.specs.Answers.{Answer, gives, refused, nowhere, onGiven, outcome}
 use Rattle.order.specs.Order.{addFits, textFits}
 use Rattle.common.specs.Refusals.{refusedBy}
-pub use Rattle.pool_entries.specs.Choose.{sameBytes, equal, firstPlace, Chooser, firstFreeOrEqual}
+pub use Rattle.pool_entries.specs.Choose.{sameBytes, equal, firstPlace, Chooser, firstFreeOrEqual, canCountUp, equalThenFree, Legal}
 use Rattle.stringpool.specs.Pool.{Entry, entry, Rooms, entriesOf, texts, putBack, entryRoom, free, onSound}
 use Rattle.stringpool.specs.Refs.{referenceTo}
 use Rattle.stringpool.specs.declared.pool.StringPool.{StringPool}

@@ -20,19 +20,19 @@ Given s = gives (spotAt (s .args .num-strings) (W s) (firstFreeOrEqual (s .args 
 returns : tie.Need-returns
 returns c =
     let s = c .before .before .before .before .before in
-    choose-over (s .args .num-strings) (s .args .codepage) (W s) (s .args .new .now) (c .if1 .taken)
+    choose-over firstFreeOrEqual (s .args .num-strings) (s .args .codepage) (W s) (s .args .new .now) (c .if1 .taken)
 
 returns-2 : tie.Need-returns-2
 returns-2 c =
     let s = c .before .before .before .before .before .before in
     judge-size (s .args .num-strings) (s .args .codepage) (W s) (Given s) (c .if2 .taken)
-    ∙ choose-on (s .args .num-strings) (s .args .codepage) (W s) (s .args .new .now) (c .before .if1 .left)
+    ∙ choose-on firstFreeOrEqual (s .args .num-strings) (s .args .codepage) (W s) (s .args .new .now) (c .before .if1 .left)
 
 returns-3 : tie.Need-returns-3
 returns-3 c =
     let s = c .before .before .before .before .before .before .before .before in
     judge-out (s .args .num-strings) (s .args .codepage) (W s) (Given s) (c .before .before .if2 .left) (sym (c .before .fits2 .ensures) ∙ not-true _ (c .if3 .taken))
-    ∙ choose-on (s .args .num-strings) (s .args .codepage) (W s) (s .args .new .now) (c .before .before .before .if1 .left)
+    ∙ choose-on firstFreeOrEqual (s .args .num-strings) (s .args .codepage) (W s) (s .args .new .now) (c .before .before .before .if1 .left)
 
 search-requires : tie.Need-search-requires
 search-requires c κs =
@@ -52,7 +52,7 @@ returns-4 c =
     let s = c .before .before .before .before .before .before .before .before .before .before .before .before .before in
     judge-unsound (s .args .num-strings) (s .args .codepage) (W s) (Given s) (c .before .before .before .before .before .before .before .if2 .left) (sym (c .before .before .before .before .before .before .fits2 .ensures) ∙ not-false _ (c .before .before .before .before .before .if3 .left)) _
     (sym (c .before .u .given .1) ∙ c .before .before .before .used-after .ensures)
-    ∙ choose-on (s .args .num-strings) (s .args .codepage) (W s) (s .args .new .now) (c .before .before .before .before .before .before .before .before .if1 .left)
+    ∙ choose-on firstFreeOrEqual (s .args .num-strings) (s .args .codepage) (W s) (s .args .new .now) (c .before .before .before .before .before .before .before .before .if1 .left)
 
 returns-5 : tie.Need-returns-5
 returns-5 c =
@@ -60,10 +60,11 @@ returns-5 c =
     let hw = c .before .before .before .before .before .before .before .if2 .left in
     let f = sym (c .before .before .before .before .before .before .fits2 .ensures) ∙ not-false _ (c .before .before .before .before .before .if3 .left) in
     let e = sym (c .before .u2 .given .1) ∙ c .before .before .before .used-after .ensures in
-    spot-found (s .args .num-strings) (s .args .codepage) (W s) (s .args .new .now) _ _ _ (c .before .before .before .before .search .ensures)
-    (judge-fit (s .args .num-strings) (s .args .codepage) (W s) (Given s) hw f _ e) (judge-used (s .args .num-strings) (s .args .codepage) (W s) (Given s) hw f _ e)
+    let found = c .before .before .before .before .search .ensures in
+    spot-found firstFreeOrEqual (s .args .num-strings) (s .args .codepage) (W s) (s .args .new .now) _ _ _
+    (sym (found .chosen (judge-fit (s .args .num-strings) (s .args .codepage) (W s) (Given s) hw f _ e))) (found .scanned .sum .is) (judge-used (s .args .num-strings) (s .args .codepage) (W s) (Given s) hw f _ e)
     ∙ judge-sound (s .args .num-strings) (s .args .codepage) (W s) (Given s) hw f _ e
-    ∙ choose-on (s .args .num-strings) (s .args .codepage) (W s) (s .args .new .now) (c .before .before .before .before .before .before .before .before .if1 .left)
+    ∙ choose-on firstFreeOrEqual (s .args .num-strings) (s .args .codepage) (W s) (s .args .new .now) (c .before .before .before .before .before .before .before .before .if1 .left)
 
 pub choose-spec : {M : Type 1} → statement M
 choose-spec =

@@ -1,14 +1,13 @@
--- Laws of the search, entry by entry.
-use mathlib.Core.Path.{_≡_, refl, sym, ap, ap₂, _∙_}
-use Prim.Native.Nat.{ℕ, zero, suc, _+_, _-_, _≤_, _<_}
-use native.Mathlib.Nat.{add-zero, zero-add}
-use native.Mathlib.Numerals.{add-one}
+-- Laws of the searches, entry by entry.
+use mathlib.Core.Path.{_≡_, refl, sym, ap, ap₂, subst, _∙_}
+use Prim.Native.Nat.{ℕ, _+_, _-_, _≤_, _<_}
 use native.Mathlib.Omega.{arith}
 use mathlib.Core.Logic.{⊎-elim}
-use mathlib.Core.Bool.{Bool, true, false, _||_}
-use mathlib.Core.List.{List, [], _∷_}
+use mathlib.Core.Bool.{Bool, true, false, not, _&&_, _||_}
+use mathlib.Core.List.{List}
 use lib.ListN.{length, take, drop, getD, length-drop}
-use lib.Seq.{drop-cons, drop-length, length-take-le}
+use lib.Seq.{length-take-le}
+use lib.Dec.{ltb}
 use borrow.Author.Tests.{le-ltb, lt-ltb, eq-eqb, ne-eqb}
 use Rattle.common.specs.Choice.{if_then_else_}
 use Rattle.common.specs.Lists.{total}
@@ -18,21 +17,15 @@ use Rattle.common.specs.Answers.{Answer, gives, refused, nowhere}
 use Rattle.pool_entries.specs.Sound.{onSoundRooms}
 use Rattle.pool_entries.specs.Calls.{spotAt, chooseAnswer}
 use Rattle.pool_entries.specs.Entries.{Entry, entry, Rooms, firstEntries, free}
-use Rattle.pool_entries.specs.Choose.{equal, Chooser, firstFreeOrEqual}
+use Rattle.pool_entries.specs.Choose.{equal, firstPlace, Chooser, firstFreeOrEqual, canCountUp, equalThenFree}
 use Rattle.pool_entries.specs.inner.Fit.{Fit}
-use Rattle.pool_entries.specs.inner.Look.{Counted, FreeAt, Others, SumTo, PassedBy, PassedTo, SmallTo, ScannedTo, ScanIs, FoundIs}
-use Rattle.pool_entries.proofs.Sums.{total-next}
-use Rattle.pool_entries.proofs.Bytes.{same-length, equal-other}
+use Rattle.pool_entries.specs.inner.Look.{Counted, FreeAt, Others, SumTo, PassedBy, entryAt, NoneUp, UpAt, FoundIs}
+use Rattle.pool_entries.proofs.Sums.{each-join, each-next, total-next}
+use Rattle.pool_entries.proofs.Bytes.{same-length, up-other}
 use Rattle.pool_entries.proofs.Entries.{length-entries, entry-at}
-use Rattle.pool_entries.proofs.Sound.{small-counted}
+use Rattle.pool_entries.proofs.Places.{place-found, one-passes}
 
--- ---- counts and lengths, one more
-
-pub counted-next : (cs : List ℕ) (from i : ℕ) → Counted cs from i → 0 < getD cs i 0 → Counted cs from (i + 1)
-counted-next cs from i h g k a b = ⊎-elim (h k a) (λ l. let e : k ≡ i = omega arith in rw e g) (lt-or-le k i)
-
-pub others-next : (ls : List ℕ) (size from i : ℕ) → Others ls size from i → (getD ls i 0 ≡ size → ⊥) → Others ls size from (i + 1)
-others-next ls size from i h g k a b = ⊎-elim (h k a) (λ l. let e : k ≡ i = omega arith in rw e g) (lt-or-le k i)
+-- ---- lengths, one more
 
 pub sum-next : (ls : List ℕ) (i s x : ℕ) → i < length ls → x ≡ getD ls i 0 → x ≤ 4294967295 → SumTo ls i s → SumTo ls (i + 1) (s + x)
 sum-next ls i s x h e g a = record { is = omega (arith, a .is, total-next ls i (i + 1) refl h); few = omega (arith, a .few) }
@@ -46,147 +39,114 @@ pub pass-next : {ls : List ℕ} {size from to i s x k r : ℕ} → PassedBy ls s
 pass-next {ls} {size} {from} {to} {i} {s} {x} {k} {r} a e d h g b p q = record {
   after = omega (arith, a .after);
   within = omega arith;
-  others = λ j u v. others-next ls size from i (a .others) (λ z. d (e ∙ z)) j u (omega arith);
+  others = λ j u v. each-next (a .others) (λ z. d (e ∙ z)) j u (omega arith);
   sum = record { is = omega (arith, a .sum .is, total-next ls i k p (omega arith)); few = omega (arith, a .sum .few) };
 }
 
 -- some, and then some more
 pub pass-join : {ls : List ℕ} {size from to i s mid k r : ℕ} → PassedBy ls size from to i s → PassedBy ls size i mid k r → mid ≤ to → PassedBy ls size from to k r
-pass-join {i = i} a b h = record {
+pass-join a b h = record {
   after = omega (arith, a .after, b .after);
   within = omega (arith, b .within);
-  others = λ j x y. ⊎-elim (λ z. a .others j x z) (λ z. b .others j z y) (lt-or-le j i);
+  others = each-join (a .others) (b .others);
   sum = b .sum;
 }
 
--- ---- the choice, entry by entry
+-- ---- an entry that can count up
+
+neither-passes : (a b : Bool) → a ≡ false → (not a && b) ≡ false → (a || b) ≡ false
+neither-passes true b e f = e
+neither-passes false b e f = f
 
 module _ (n : ℕ) (w : Rooms) (t : List ℕ) where
-  -- the entry at k, by the rooms
-  abbrev At : ℕ → Entry
-  At k = entry (take (getD (w .lengths) k 0) (drop (total (take k (w .lengths))) (w .text))) (getD (w .counts) k 0)
-
-  module _ (fit : Fit n w) (i : ℕ) (inv : PassedTo n w t i) where
-    step : i < n → firstFreeOrEqual t (drop i (firstEntries n w))
-        ≡ (if free (At i) || equal t (At i) then 0 else firstFreeOrEqual t (drop (suc i) (firstEntries n w)) + 1)
-    step h =
-        ap (firstFreeOrEqual t) (drop-cons (firstEntries n w) i (entry [] 0) (omega (arith, length-entries n w fit)))
-        ∙ ap (λ (e : Entry). firstFreeOrEqual t (e ∷ drop (suc i) (firstEntries n w))) (entry-at n w fit i h)
-
-    by-tests : i < n → (a b : Bool) → free (At i) ≡ a → equal t (At i) ≡ b
-        → firstFreeOrEqual t (firstEntries n w) ≡ i + (if a || b then 0 else firstFreeOrEqual t (drop (suc i) (firstEntries n w)) + 1)
-    by-tests h a b e f =
-        inv ∙ ap (λ (k : ℕ). i + k) (step h ∙ ap₂ (λ (x y : Bool). if x || y then 0 else firstFreeOrEqual t (drop (suc i) (firstEntries n w)) + 1) e f)
-
-    pub chosen-free : i < n → getD (w .counts) i 0 ≡ 0 → firstFreeOrEqual t (firstEntries n w) ≡ i
-    chosen-free h z = by-tests h true (equal t (At i)) (eq-eqb _ _ z) refl ∙ add-zero i
-
-    module _ (h : i < n) (c : 0 < getD (w .counts) i 0) where
-      counted : free (At i) ≡ false
-      counted = ne-eqb (getD (w .counts) i 0) 0 (λ (e : getD (w .counts) i 0 ≡ 0). omega arith)
-
-      pub chosen-equal : equal t (At i) ≡ true → firstFreeOrEqual t (firstEntries n w) ≡ i
-      chosen-equal e = by-tests h false true counted e ∙ add-zero i
-
-      pub chosen-next : equal t (At i) ≡ false → PassedTo n w t (i + 1)
-      chosen-next e =
-          let q : i + (firstFreeOrEqual t (drop (suc i) (firstEntries n w)) + 1) ≡ i + 1 + firstFreeOrEqual t (drop (suc i) (firstEntries n w)) = omega arith in
-          by-tests h false false counted e ∙ q ∙ ap (λ (k : ℕ). i + 1 + firstFreeOrEqual t (drop k (firstEntries n w))) (sym (add-one i))
-
-    pub chosen-none : i ≡ n → firstFreeOrEqual t (firstEntries n w) ≡ i
-    chosen-none e =
-        let es : List Entry = firstEntries n w in
-        let l : i ≡ length es = omega (arith, length-entries n w fit) in
-        inv ∙ ap (λ (k : ℕ). i + firstFreeOrEqual t (drop k es)) l ∙ ap (λ (x : List Entry). i + firstFreeOrEqual t x) (drop-length es) ∙ add-zero i
-
-  -- an entry of another length is not equal
-  other-length : Fit n w → (i : ℕ) → i < n → (getD (w .lengths) i 0 ≡ length t → ⊥) → equal t (At i) ≡ false
-  other-length fit i h d =
+  -- an entry of another length cannot
+  pub up-length : Fit n w → (i : ℕ) → i < n → (getD (w .lengths) i 0 ≡ length t → ⊥) → canCountUp t (entryAt w i) ≡ false
+  up-length fit i h d =
       let l : ℕ = getD (w .lengths) i 0 in
       let at : ℕ = total (take i (w .lengths)) in
       let u : List ℕ = take l (drop at (w .text)) in
       let in' = total-in (w .lengths) i n h (fit .lengths) in
       let room : l ≤ length (drop at (w .text)) = omega (arith, length-drop at (w .text), fit .text) in
       let long : length u ≡ l = length-take-le l (drop at (w .text)) room in
-      equal-other t u (getD (w .counts) i 0) (same-length u t (λ e. d (sym long ∙ e)))
+      up-other t u (getD (w .counts) i 0) (same-length u t (λ e. d (sym long ∙ e)))
+
+  -- nor can those that were passed by their lengths
+  pub up-passed : Fit n w → (from to : ℕ) → to ≤ n → Others (w .lengths) (length t) from to → NoneUp w t from to
+  up-passed fit from to h o k a b = up-length fit k (omega arith) (o k a b)
 
   -- what was compared is the entry
   pub compared : (i s x : ℕ) (b : Bool) → i < n → x ≡ getD (w .lengths) i 0 → x ≡ length t → s ≡ total (take i (w .lengths))
-      → (s + length t ≤ length (w .text) → b ≡ equal t (entry (take (length t) (drop s (w .text))) (getD (w .counts) i 0)))
-      → Fit n w → equal t (At i) ≡ b
+      → (s + length t ≤ length (w .text) → b ≡ canCountUp t (entry (take (length t) (drop s (w .text))) (getD (w .counts) i 0)))
+      → Fit n w → canCountUp t (entryAt w i) ≡ b
   compared i s x b h e f g c fit =
       let in' = total-in (w .lengths) i n h (fit .lengths) in
       let l : length t ≡ getD (w .lengths) i 0 = omega arith in
-      sym (c (omega (arith, fit .text)) ∙ ap₂ (λ (k a : ℕ). equal t (entry (take k (drop a (w .text))) (getD (w .counts) i 0))) l g)
+      sym (c (omega (arith, fit .text)) ∙ ap₂ (λ (k a : ℕ). canCountUp t (entry (take k (drop a (w .text))) (getD (w .counts) i 0))) l g)
 
-  -- ---- the turns of the scan
+  -- ---- the places that are chosen
 
-  module _ (hl : n ≤ length (w .lengths)) (hc : n ≤ length (w .counts)) where
-    -- an entry that is counted and not equal is passed by
-    pub scan-one : (i s x : ℕ) → i < n → 0 < getD (w .counts) i 0 → x ≡ getD (w .lengths) i 0 → x ≤ 4294967295
-        → (Fit n w → equal t (At i) ≡ false) → ScannedTo n w t i s → ScannedTo n w t (i + 1) (s + x)
-    scan-one i s x h c l g e a = record {
-      sum = sum-next (w .lengths) i s x (omega arith) l g (a .sum);
-      small = small-counted n (w .lengths) (w .counts) hl hc i (a .small) h c;
-      passed = λ fit. chosen-next fit i (a .passed fit) h c (e fit);
-    }
+  -- a place by the rooms is one of the entries
+  module _ (f : Entry → Bool) (fit : Fit n w) where
+    pub first-at : (k : ℕ) → k ≤ n → ((j : ℕ) → j < k → f (entryAt w j) ≡ false) → (k < n → f (entryAt w k) ≡ true) → firstPlace f (firstEntries n w) ≡ k
+    first-at k h b c =
+        place-found f (firstEntries n w) k (omega (arith, length-entries n w fit)) (λ j q. ap f (entry-at n w fit j (omega arith)) ∙ b j q)
+        (λ q. let r : k < n = omega (arith, length-entries n w fit) in ap f (entry-at n w fit k r) ∙ c r)
 
-    pub scan-other : (i s x : ℕ) → i < n → 0 < getD (w .counts) i 0 → x ≡ getD (w .lengths) i 0 → x ≤ 4294967295
-        → (x ≡ length t → ⊥) → ScannedTo n w t i s → ScannedTo n w t (i + 1) (s + x)
-    scan-other i s x h c l g d a = scan-one i s x h c l g (λ fit. other-length fit i h (λ e. d (l ∙ e))) a
+  is-free : (j : ℕ) → getD (w .counts) j 0 ≡ 0 → free (entryAt w j) ≡ true
+  is-free j e = eq-eqb _ _ e
 
-    -- entries of other lengths are passed by, whatever the sum before them
-    many : (d i : ℕ) → i + d ≤ n → Counted (w .counts) i (i + d) → Others (w .lengths) (length t) i (i + d)
-        → SmallTo n (w .lengths) (w .counts) i → (Fit n w → PassedTo n w t i)
-        → SmallTo n (w .lengths) (w .counts) (i + d) × (Fit n w → PassedTo n w t (i + d))
-    many zero i h c o small passed = let e : i + 0 ≡ i = omega arith in rw e (small, passed)
-    many (suc d) i h c o small passed =
-        let e : i + suc d ≡ i + 1 + d = omega arith in
-        let now : 0 < getD (w .counts) i 0 = c i (omega arith) (omega arith) in
-        rw e (many d (i + 1) (omega arith) (λ k a b. c k (omega arith) (omega arith)) (λ k a b. o k (omega arith) (omega arith))
-        (small-counted n (w .lengths) (w .counts) hl hc i small (omega arith) now)
-        (λ fit. chosen-next fit i (passed fit) (omega arith) now (other-length fit i (omega arith) (o i (omega arith) (omega arith)))))
+  not-free : (j : ℕ) → 0 < getD (w .counts) j 0 → free (entryAt w j) ≡ false
+  not-free j c = ne-eqb (getD (w .counts) j 0) 0 (λ (e : getD (w .counts) j 0 ≡ 0). omega arith)
 
-    pub scan-many : (from k b s : ℕ) → from ≤ k → k ≤ n → Counted (w .counts) from k → Others (w .lengths) (length t) from k → SumTo (w .lengths) k s
-        → ScannedTo n w t from b → ScannedTo n w t k s
-    scan-many from k b s h g c o sum a =
-        let e : from + (k - from) ≡ k = omega arith in
-        let m = many (k - from) from (omega arith) (rw e c) (rw e o) (a .small) (a .passed) in
-        record { sum = sum; small = rw e at (m .0); passed = λ fit. rw e at (m .1 fit) }
+  -- 01's choice comes after entries none of which is free or can count up
+  old-at : Fit n w → (k : ℕ) → k ≤ n → Counted (w .counts) 0 k → NoneUp w t 0 k → (k < n → (free (entryAt w k) || equal t (entryAt w k)) ≡ true) → k ≡ firstFreeOrEqual t (firstEntries n w)
+  old-at fit k h c v y =
+      sym (first-at (λ (e : Entry). free e || equal t e) fit k h
+      (λ j q. neither-passes (free (entryAt w j)) (equal t (entryAt w j)) (not-free j (c j (omega arith) q)) (v j (omega arith) q)) y)
 
-  -- ---- what the search ends with
+  -- in the block i..to, of which f is the first free entry and k the first before it that can count up
+  module _ (i to f k s : ℕ) (h : to ≤ n) (c : Counted (w .counts) 0 i) (v : Fit n w → NoneUp w t 0 i) (z : FreeAt (w .counts) i to f) (u : UpAt n w t i f k s) where
+    counted : Counted (w .counts) 0 k
+    counted = each-join c (λ j a b. z .counted j a (omega (arith, u .within)))
 
-  pub scan-none : ScannedTo n w t 0 0
-  scan-none = record { sum = record { is = refl; few = omega arith }; small = refl; passed = λ fit. sym (zero-add _) }
+    none : Fit n w → NoneUp w t 0 k
+    none fit = each-join (v fit) (u .before fit)
 
-  scan-to : (i j s : ℕ) → i ≡ j → ScannedTo n w t i s → ScannedTo n w t j s
-  scan-to i j s e a = rw e at a
+    suits : Fit n w → k < to → (free (entryAt w k) || equal t (entryAt w k)) ≡ true
+    suits fit g =
+        ⊎-elim (λ q. one-passes (free (entryAt w k)) (equal t (entryAt w k)) (u .here q fit))
+        (λ q. let e : k ≡ f = omega (arith, u .within) in ap (λ (b : Bool). b || equal t (entryAt w k)) (is-free k (ap (λ (j : ℕ). getD (w .counts) j 0) e ∙ z .free (omega arith))))
+        (lt-or-le k f)
 
-  -- an equal entry ends the scan
-  pub scan-equal : (to i s : ℕ) → to ≤ n → i < to → 0 < getD (w .counts) i 0 → (Fit n w → equal t (At i) ≡ true) → ScannedTo n w t i s → ScanIs n w t to i s
-  scan-equal to i s h g c e a = record {
-    within = omega arith;
-    scanned = a;
-    chosen = λ k fit. chosen-equal fit i (a .passed fit) (omega arith) c (e fit);
-  }
+    pub found-here : k < to → FoundIs n w t k s
+    found-here g = record { within = omega arith; sum = u .sum; counted = counted; chosen = λ fit. old-at fit k (omega arith) counted (none fit) (λ q. suits fit g) }
 
-  pub scan-on : (to k s : ℕ) → to ≤ k → ScanIs n w t to k s → ScannedTo n w t to s
-  scan-on to k s h a = scan-to k to s (omega (arith, a .within)) (a .scanned)
+    -- the block is passed by
+    abbrev Passed : ℕ → Type 0
+    Passed j = SumTo (w .lengths) j s × Counted (w .counts) 0 j × (Fit n w → NoneUp w t 0 j)
 
-  pub found-equal : (to k s : ℕ) → to ≤ n → k < to → ScanIs n w t to k s → FoundIs n w t k s
-  found-equal to k s h g a = record { within = omega arith; scanned = a .scanned; chosen = a .chosen g }
+    pub found-later : to ≤ k → Passed to
+    found-later g = let e : k ≡ to = omega (arith, u .within, z .within) in subst Passed e (u .sum, counted, none)
 
-  pub found-free : (from to f k s : ℕ) → to ≤ n → f < to → f ≤ k → FreeAt (w .counts) from to f → ScanIs n w t f k s → FoundIs n w t k s
-  found-free from to f k s h g b z a =
-      let e : k ≡ f = omega (arith, a .within) in
-      record {
-        within = omega arith;
-        scanned = a .scanned;
-        chosen = λ fit. chosen-free fit k (a .scanned .passed fit) (omega arith) (ap (λ (j : ℕ). getD (w .counts) j 0) e ∙ z .free g);
-      }
+  pub found-none : (k s : ℕ) → k ≡ n → SumTo (w .lengths) k s → Counted (w .counts) 0 k → (Fit n w → NoneUp w t 0 k) → FoundIs n w t k s
+  found-none k s e a c v = record { within = omega arith; sum = a; counted = c; chosen = λ fit. old-at fit k (omega arith) c (v fit) (λ q. absurd (omega arith)) }
 
-  pub found-none : (k s : ℕ) → k ≡ n → ScannedTo n w t k s → FoundIs n w t k s
-  found-none k s e a = record { within = omega arith; scanned = a; chosen = λ fit. chosen-none fit k (a .passed fit) e }
+  -- ---- the default choice
+
+  module _ (fit : Fit n w) (k s : ℕ) (u : UpAt n w t 0 n k s) where
+    by-place : (b : Bool) → ltb k n ≡ b → equalThenFree t (firstEntries n w) ≡ (if b then k else firstPlace free (firstEntries n w))
+    by-place b e =
+        ap₂ (λ (x y : ℕ). if ltb x y then x else firstPlace free (firstEntries n w))
+        (first-at (canCountUp t) fit k (u .within) (λ j q. u .before fit j (omega arith) q) (λ q. u .here q fit)) (length-entries n w fit)
+        ∙ ap (λ (x : Bool). if x then k else firstPlace free (firstEntries n w)) e
+
+    pub prefers-up : k < n → k ≡ equalThenFree t (firstEntries n w)
+    prefers-up h = sym (by-place true (lt-ltb k n h))
+
+    pub prefers-free : (f : ℕ) → n ≤ k → FreeAt (w .counts) 0 n f → f ≡ equalThenFree t (firstEntries n w)
+    prefers-free f h z =
+        sym (by-place false (le-ltb k n h)
+        ∙ first-at free fit f (z .within) (λ j q. not-free j (z .counted j (omega arith) q)) (λ q. is-free f (z .free q)))
 
 -- ---- the answer, with the text's size judged first
 

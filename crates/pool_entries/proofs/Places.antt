@@ -45,6 +45,10 @@ pub counts-up : (a b : Bool) → (not a && b) ≡ true → (a ≡ false) × (b �
 counts-up true b q = clash (cc)
 counts-up false b q = (refl, q)
 
+pub one-passes : (a b : Bool) → (not a && b) ≡ true → (a || b) ≡ true
+one-passes true b q = refl
+one-passes false b q = q
+
 pub first-free-or-equal : Legal firstFreeOrEqual
 first-free-or-equal t es = first-place (λ (e : Entry). free e || equal t e) es
 
@@ -54,15 +58,11 @@ equal-then-free t es = go (ltb (firstPlace (canCountUp t) es) (length es)) (firs
     Suits : ℕ → Type 0
     Suits k = First (λ (e : Entry). free e || equal t e) es k
 
-    up : (a b : Bool) → (not a && b) ≡ true → (a || b) ≡ true
-    up true b q = refl
-    up false b q = q
-
     is-free : (a b : Bool) → a ≡ true → (a || b) ≡ true
     is-free true b q = refl
     is-free false b q = clash (cc)
 
     go : (b : Bool) → First (canCountUp t) es (firstPlace (canCountUp t) es) → First free es (firstPlace free es)
         → Suits (if b then firstPlace (canCountUp t) es else firstPlace free es)
-    go true g h = let e : Entry = getD es (firstPlace (canCountUp t) es) (entry [] 0) in (g .0, λ q. up (free e) (equal t e) (g .1 q))
+    go true g h = let e : Entry = getD es (firstPlace (canCountUp t) es) (entry [] 0) in (g .0, λ q. one-passes (free e) (equal t e) (g .1 q))
     go false g h = let e : Entry = getD es (firstPlace free es) (entry [] 0) in (h .0, λ q. is-free (free e) (equal t e) (h .1 q))

@@ -1,6 +1,6 @@
 -- Laws of the judgement of a state.
-use mathlib.Core.Path.{_≡_, refl, sym, ap, ap₂, _∙_}
-use Prim.Native.Nat.{ℕ, suc, _+_, _≤_, _<_, min}
+use mathlib.Core.Path.{_≡_, refl, sym, ap, ap₂, subst, _∙_}
+use Prim.Native.Nat.{ℕ, zero, suc, _+_, _≤_, _<_, min}
 use native.Mathlib.Omega.{arith}
 use native.Mathlib.Numerals.{add-one}
 use mathlib.Core.Bool.{Bool, true, false, not, _&&_, _||_}
@@ -16,7 +16,7 @@ use Rattle.pool_entries.specs.Entries.{Entry, Rooms, cut, entryRoom, fre
 use Rattle.pool_entries.specs.Sound.{soundRooms, onSoundRooms}
 use Rattle.pool_entries.specs.inner.Fit.{Fit}
 use Rattle.pool_entries.specs.inner.Adding.{Short}
-use Rattle.pool_entries.specs.inner.Look.{SmallTo}
+use Rattle.pool_entries.specs.inner.Look.{Counted, SmallTo}
 use Rattle.pool_entries.specs.inner.Sound.{smallB, allSmall, sumsB, fitsB, soundB, usedOf}
 use Rattle.common.specs.Refusals.{refusedBy}
 use Rattle.common.specs.declared.refusal.Refusal.{Refusal}
@@ -56,9 +56,17 @@ module _ (n : ℕ) (ls cs : List ℕ) (hl : n ≤ length ls) (hc : n ≤ length 
   small-yes e = sym (inv ∙ ap (λ (k : ℕ). allSmall (drop k (take n ls)) (drop k (take n cs))) e ∙ allSmall-end n ls cs hl)
 
   -- an entry that is counted is small
-  pub small-counted : i < n → 0 < getD cs i 0 → SmallTo n ls cs (i + 1)
+  small-counted : i < n → 0 < getD cs i 0 → SmallTo n ls cs (i + 1)
   small-counted h c =
       small-next h (ap (λ (b : Bool). (if b then leb (getD ls i 0) 65535 else true)) (ne-eqb (getD cs i 0) 0 (λ e. omega arith)))
+
+-- entries that are counted are small
+pub counted-small : (n : ℕ) (ls cs : List ℕ) → n ≤ length ls → n ≤ length cs → (k : ℕ) → k ≤ n → Counted cs 0 k → SmallTo n ls cs k
+counted-small n ls cs hl hc zero h c = refl
+counted-small n ls cs hl hc (suc k) h c =
+    let e : k + 1 ≡ suc k = add-one k in
+    subst (SmallTo n ls cs) e
+    (small-counted n ls cs hl hc k (counted-small n ls cs hl hc k (omega arith) (λ j a b. c j a (omega arith))) (omega arith) (c k (omega arith) (omega arith)))
 
 small-short : (l c : ℕ) → l ≤ 65535 → smallB l c ≡ true
 small-short l c h = go (eqb c 0)

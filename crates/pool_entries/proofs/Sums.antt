@@ -1,5 +1,5 @@
 -- Laws of the passes over the lengths.
-use mathlib.Core.Path.{_≡_, refl, ap, _∙_}
+use mathlib.Core.Path.{_≡_, refl, sym, ap, subst, _∙_}
 use Prim.Native.Nat.{ℕ, _+_, _%_, _≤_, _<_, _^_}
 use native.Mathlib.Numerals.{add-one}
 use native.Mathlib.Omega.{arith}
@@ -10,13 +10,17 @@ use lib.Bits.{bitOr, or-add-and, and-le-l, and-le-r}
 use Rattle.common.specs.Lists.{total}
 use Rattle.common.proofs.Bools.{lt-or-le}
 use Rattle.common.proofs.Sums.{total-suc}
-use Rattle.pool_entries.specs.inner.Adding.{Short, Tallied}
+use Rattle.pool_entries.specs.inner.Adding.{Each, Tallied}
 
-pub short-next : (ls : List ℕ) (from i : ℕ) → Short ls from i → getD ls i 0 ≤ 65535 → Short ls from (i + 1)
-short-next ls from i h g k a b = ⊎-elim (h k a) (λ l. let e : k ≡ i = omega arith in rw e g) (lt-or-le k i)
+-- ---- what holds of each place
 
-pub short-join : (ls : List ℕ) (from i to : ℕ) → Short ls from i → Short ls i to → Short ls from to
-short-join ls from i to h g k a b = ⊎-elim (h k a) (λ l. g k l b) (lt-or-le k i)
+pub each-join : {P : ℕ → Type 0} {from i to : ℕ} → Each P from i → Each P i to → Each P from to
+each-join {i = i} h g k a b = ⊎-elim (h k a) (λ l. g k l b) (lt-or-le k i)
+
+pub each-next : {P : ℕ → Type 0} {from i : ℕ} → Each P from i → P i → Each P from (i + 1)
+each-next {P} {from} {i} h g k a b = ⊎-elim (h k a) (λ l. let e : k ≡ i = omega arith in subst P (sym e) g) (lt-or-le k i)
+
+-- ---- sums
 
 pub total-next : (ls : List ℕ) (i j : ℕ) → j ≡ i + 1 → i < length ls → total (take j ls) ≡ total (take i ls) + getD ls i 0
 total-next ls i j e h = ap (λ (k : ℕ). total (take k ls)) (e ∙ add-one i) ∙ total-suc ls i h
@@ -37,5 +41,5 @@ tally-next ls from i s x h g b short t e =
     record {
       sum = omega (arith, t .sum, total-next ls i (i + 1) refl h);
       few = omega arith;
-      short = short-next ls from i (t .short) short;
+      short = each-next (t .short) short;
     }

@@ -1,11 +1,11 @@
-// Which entry a take chooses, in a state that is judged in the same pass.
+// Which entry a take chooses by document 01, in a state that is judged in the same pass.
 use crate::adding::block_end;
-use crate::frees::first_free;
+use crate::frees::first_in;
 use crate::judging::State;
 use crate::judging::fits;
 use crate::judging::used_after;
-use crate::same::equal_at;
 use crate::same::last_eight;
+use crate::same::up_by_end;
 use crate::skips::Step;
 use crate::skips::length_at;
 use crate::skips::skip;
@@ -17,7 +17,7 @@ ghost use lib.ListN.{length};
 ghost use Rattle.pool_entries.specs.Entries.{rooms};
 ghost use Rattle.pool_entries.specs.Choose.{firstFreeOrEqual};
 ghost use Rattle.pool_entries.specs.Calls.{chosenAs, chooseAnswer};
-ghost use Rattle.pool_entries.specs.inner.Look.{Ends, Counted, ScannedTo, ScanIs, FoundIs};
+ghost use Rattle.pool_entries.specs.inner.Look.{Ends, SumTo, UpAt, FoundIs};
 
 // The place chosen, that after the last for a new entry; where its text starts; and the bytes that all texts use.
 pub struct Spot {
@@ -31,8 +31,8 @@ pub enum Choice {
     Refused(Refusal),
 }
 
-// The first equal entry of from..to, none of which is free; with none, `to`. The entries before `from` use begin bytes.
-fn scan(
+// The first entry of from..to that can count up; with none, `to`. The entries before `from` use begin bytes.
+pub(crate) fn scan(
     n: usize,
     lengths: &[u32],
     counts: &[u16],
@@ -44,8 +44,8 @@ fn scan(
     word: u64,
 ) -> Step
     requires { ⌜ (n ≤ length (now lengths)) × (n ≤ length (now counts)) × (n ≤ 16777215) × (from ≤ to) × (to ≤ n) × (length (now new) ≤ 268435455) ⌝ }
-    requires { ⌜ Ends (now new) word × Counted (now counts) from to × ScannedTo n (rooms (now lengths) (now counts) (now text)) (now new) from begin ⌝ }
-    ensures { λ r. ⌜ ScanIs n (rooms (now (lengths .entry)) (now (counts .entry)) (now (text .entry))) (now (new .entry)) to (r .0) (r .1) ⌝ }
+    requires { ⌜ Ends (now new) word × SumTo (now lengths) from begin ⌝ }
+    ensures { λ r. ⌜ UpAt n (rooms (now (lengths .entry)) (now (counts .entry)) (now (text .entry))) (now (new .entry)) from to (r .0) (r .1) ⌝ }
 {
     let size = new.len();
     let mut start = begin;
@@ -54,7 +54,7 @@ fn scan(
         let length = length_at(lengths, i);
         if length == size {
             let count = counts[i];
-            if equal_at(count, text, start, new, word) {
+            if up_by_end(count, text, start, new, word) {
                 return Step(i, start);
             }
             start += length;
@@ -78,12 +78,9 @@ fn search(n: usize, lengths: &[u32], counts: &[u16], text: &[u8], new: &[u8]) ->
     let mut i = 0;
     while i < n {
         let to = block_end(i, n, 1024);
-        let free = first_free(counts, i, to);
+        let free = first_in(counts, i, to);
         let s = scan(n, lengths, counts, text, new, i, free, start, word);
-        if s.0 < free {
-            return s;
-        }
-        if free < to {
+        if s.0 < to {
             return s;
         }
         start = s.1;
@@ -92,7 +89,7 @@ fn search(n: usize, lengths: &[u32], counts: &[u16], text: &[u8], new: &[u8]) ->
     Step(i, start)
 }
 
-// The sizes and the soundness are judged, and the entry is chosen that a take of new is to have.
+// The sizes and the soundness are judged, and the entry is chosen that a take of new is to have by document 01: the first that is free or equal.
 pub fn choose(
     num_strings: usize,
     codepage: u32,

@@ -1,4 +1,5 @@
 // Which entry is free.
+use crate::adding::block_end;
 ghost use mathlib.Core.Path.{_≡_};
 ghost use Prim.Native.Nat.{_+_, _≤_, _<_};
 ghost use lib.ListN.{length};
@@ -44,8 +45,8 @@ fn first(counts: &[u16], from: usize, to: usize) -> usize
     to
 }
 
-// The first free entry of from..to, at most 1,024, found at once where none is free; with none, `to`.
-pub(crate) fn first_free(counts: &[u16], from: usize, to: usize) -> usize
+// The same of at most 1,024 entries, found at once where none is free.
+pub(crate) fn first_in(counts: &[u16], from: usize, to: usize) -> usize
     requires { ⌜ (from ≤ to) × (to ≤ length (now counts)) × (to ≤ from + 1024) ⌝ }
     ensures { λ r. ⌜ FreeAt (now (counts .entry)) from to r ⌝ }
 {
@@ -53,4 +54,21 @@ pub(crate) fn first_free(counts: &[u16], from: usize, to: usize) -> usize
         return to;
     }
     first(counts, from, to)
+}
+
+// The first free entry of n, block by block; with none, n.
+pub(crate) fn first_free(counts: &[u16], n: usize) -> usize
+    requires { ⌜ n ≤ length (now counts) ⌝ }
+    ensures { λ r. ⌜ FreeAt (now (counts .entry)) 0 n r ⌝ }
+{
+    let mut i = 0;
+    while i < n {
+        let to = block_end(i, n, 1024);
+        let free = first_in(counts, i, to);
+        if free < to {
+            return free;
+        }
+        i = to;
+    }
+    n
 }

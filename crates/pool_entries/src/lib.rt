@@ -1,8 +1,9 @@
-// A pool's entries in the lent rooms: whether they are sound, how many bytes their texts use, and which one a take chooses.
+// A pool's entries in the lent rooms: whether they are sound, how many bytes their texts use, and which one a take chooses, by each of two ways.
 mod adding;
 mod choosing;
 mod frees;
 mod judging;
+mod preferring;
 mod same;
 mod skips;
 
@@ -11,3 +12,4 @@ pub use crate::choosing::Spot;
 pub use crate::choosing::choose;
 pub use crate::judging::State;
 pub use crate::judging::judge;
+pub use crate::preferring::prefer;

@@ -1,12 +1,13 @@
-// Whether two texts are the same bytes: the last eight first, then eight at a time.
+// Whether two texts are the same bytes, the last eight first, then eight at a time; and whether an entry can count up.
 ghost use mathlib.Core.Path.{_≡_};
 ghost use Prim.Native.Nat.{ℕ, _+_, _≤_, _<_, _^_};
-ghost use mathlib.Core.Bool.{false};
+ghost use mathlib.Core.Bool.{false, not, _&&_};
 ghost use mathlib.Core.List.{List};
 ghost use lib.ListN.{length, take, drop, getD};
+ghost use Rattle.common.specs.Choice.{_=?_, _<?_};
 ghost use Rattle.little_endian.specs.Numbers.{numberAt};
 ghost use Rattle.pool_entries.specs.Entries.{entry};
-ghost use Rattle.pool_entries.specs.Choose.{sameBytes, equal};
+ghost use Rattle.pool_entries.specs.Choose.{sameBytes, canCountUp};
 ghost use Rattle.pool_entries.specs.inner.Look.{Word, Ends};
 
 fn byte(s: &[u8], at: usize) -> u64
@@ -75,12 +76,22 @@ fn same_from(a: &[u8], b: &[u8], from: usize) -> bool
     true
 }
 
-// Whether an entry whose text is as long as new has the same bytes and can count up.
-fn is_equal(count: u16, text: &[u8], new: &[u8]) -> bool
-    requires { ⌜ length (now text) ≡ length (now new) ⌝ }
-    ensures { λ r. ⌜ r ≡ equal (now (new .entry)) (entry (now (text .entry)) count) ⌝ }
+// Whether an entry of that count is used and can be used once more.
+fn counts_up(count: u16) -> bool
+    ensures { λ r. ⌜ r ≡ (not (count =? 0) && count <? 65535) ⌝ }
 {
     if count < 65535 {
+        return count > 0;
+    }
+    false
+}
+
+// Whether an entry whose text is as long as new has the same bytes and can count up.
+fn can_count_up(count: u16, text: &[u8], new: &[u8]) -> bool
+    requires { ⌜ length (now text) ≡ length (now new) ⌝ }
+    ensures { λ r. ⌜ r ≡ canCountUp (now (new .entry)) (entry (now (text .entry)) count) ⌝ }
+{
+    if counts_up(count) {
         return same(text, new);
     }
     false
@@ -103,26 +114,26 @@ fn may_be(text: &[u8], at: usize, size: usize, word: u64) -> bool
 }
 
 // Whether the entry at `at` in the text room, as long as new, has the same bytes and can count up; false where its bytes are not all there.
-fn same_at(count: u16, text: &[u8], at: usize, new: &[u8]) -> bool
+fn up_at(count: u16, text: &[u8], at: usize, new: &[u8]) -> bool
     requires { ⌜ at + length (now new) < 2 ^ 64 ⌝ }
     ensures { λ r. ⌜ (at + length (now (new .entry)) ≤ length (now (text .entry))
-        → r ≡ equal (now (new .entry)) (entry (take (length (now (new .entry))) (drop at (now (text .entry)))) count)) ⌝ }
+        → r ≡ canCountUp (now (new .entry)) (entry (take (length (now (new .entry))) (drop at (now (text .entry)))) count)) ⌝ }
 {
     let end = at + new.len();
     if end > text.len() {
         return false;
     }
-    is_equal(count, &text[at..end], new)
+    can_count_up(count, &text[at..end], new)
 }
 
 // The same, where `word` is new's end: most texts are told apart by theirs.
-pub(crate) fn equal_at(count: u16, text: &[u8], at: usize, new: &[u8], word: u64) -> bool
+pub(crate) fn up_by_end(count: u16, text: &[u8], at: usize, new: &[u8], word: u64) -> bool
     requires { ⌜ (at + length (now new) < 2 ^ 64) × Ends (now new) word ⌝ }
     ensures { λ r. ⌜ (at + length (now (new .entry)) ≤ length (now (text .entry))
-        → r ≡ equal (now (new .entry)) (entry (take (length (now (new .entry))) (drop at (now (text .entry)))) count)) ⌝ }
+        → r ≡ canCountUp (now (new .entry)) (entry (take (length (now (new .entry))) (drop at (now (text .entry)))) count)) ⌝ }
 {
     if may_be(text, at, new.len(), word) {
-        return same_at(count, text, at, new);
+        return up_at(count, text, at, new);
     }
     false
 }

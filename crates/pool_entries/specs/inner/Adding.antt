@@ -5,9 +5,13 @@ use mathlib.Core.List.{List}
 use lib.ListN.{take, getD}
 use Rattle.common.specs.Lists.{total}
 
+-- P holds of each place from..to
+abbrev pub Each : (ℕ → Type 0) → ℕ → ℕ → Type 0
+Each P from to = (k : ℕ) → from ≤ k → k < to → P k
+
 -- the lengths from..to are at most 65,535 each
 abbrev pub Short : List ℕ → ℕ → ℕ → Type 0
-Short ls from to = (k : ℕ) → from ≤ k → k < to → getD ls k 0 ≤ 65535
+Short ls from to = Each (λ k. getD ls k 0 ≤ 65535) from to
 
 -- the lengths from..to, none of them above 65,535, summed
 pub record Tallied (ls : List ℕ) (from to s : ℕ) : Type 0 where

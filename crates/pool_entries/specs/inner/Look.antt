@@ -1,13 +1,15 @@
--- What the search of a take finds, in a state that is judged on the way.
-use Prim.Native.Nat.{ℕ, _+_, _-_, _*_, _≤_, _<_}
+-- What the searches of a take find; 01's choice is looked for in a state that is judged on the way.
+use Prim.Native.Nat.{ℕ, _-_, _*_, _≤_, _<_}
 use mathlib.Core.Path.{_≡_}
+use mathlib.Core.Bool.{true, false}
 use mathlib.Core.List.{List}
 use lib.ListN.{length, take, drop, getD}
 use Rattle.common.specs.Lists.{total}
 use Rattle.little_endian.specs.Numbers.{numberAt}
 use Rattle.little_endian.specs.Promises.{AreBytes}
-use Rattle.pool_entries.specs.Entries.{Rooms, firstEntries}
-use Rattle.pool_entries.specs.Choose.{firstFreeOrEqual}
+use Rattle.pool_entries.specs.Entries.{Entry, entry, Rooms, firstEntries}
+use Rattle.pool_entries.specs.Choose.{firstFreeOrEqual, canCountUp, equalThenFree}
+use Rattle.pool_entries.specs.inner.Adding.{Each}
 use Rattle.pool_entries.specs.inner.Fit.{Fit}
 use Rattle.pool_entries.specs.inner.Sound.{allSmall}
 
@@ -22,7 +24,7 @@ Ends t word = 8 ≤ length t → Word t (length t - 8) word
 
 -- the counts from..to are above 0
 abbrev pub Counted : List ℕ → ℕ → ℕ → Type 0
-Counted cs from to = (k : ℕ) → from ≤ k → k < to → 0 < getD cs k 0
+Counted cs from to = Each (λ k. 0 < getD cs k 0) from to
 
 -- the first free entry of from..to is at k; with none, k is `to`
 pub record FreeAt (cs : List ℕ) (from to k : ℕ) : Type 0 where
@@ -33,7 +35,7 @@ pub record FreeAt (cs : List ℕ) (from to k : ℕ) : Type 0 where
 
 -- the lengths from..to are other than size
 abbrev pub Others : List ℕ → ℕ → ℕ → ℕ → Type 0
-Others ls size from to = (k : ℕ) → from ≤ k → k < to → getD ls k 0 ≡ size → ⊥
+Others ls size from to = Each (λ k. getD ls k 0 ≡ size → ⊥) from to
 
 -- the first k lengths sum to s
 pub record SumTo (ls : List ℕ) (k s : ℕ) : Type 0 where
@@ -47,28 +49,34 @@ pub record PassedBy (ls : List ℕ) (size from to k s : ℕ) : Type 0 where
   pub others : Others ls size from k
   pub sum : SumTo ls k s
 
--- the choice, where the entries before i are passed by
-abbrev pub PassedTo : ℕ → Rooms → List ℕ → ℕ → Type 0
-PassedTo n w t i = firstFreeOrEqual t (firstEntries n w) ≡ i + firstFreeOrEqual t (drop i (firstEntries n w))
-
 -- all entries are small where those from i on are
 abbrev pub SmallTo : ℕ → List ℕ → List ℕ → ℕ → Type 0
 SmallTo n ls cs i = allSmall (take n ls) (take n cs) ≡ allSmall (drop i (take n ls)) (drop i (take n cs))
 
--- the first k entries use s bytes and none of them is free or, in a pool whose entries fit, equal
-pub record ScannedTo (n : ℕ) (w : Rooms) (t : List ℕ) (k s : ℕ) : Type 0 where
-  pub sum : SumTo (w .lengths) k s
-  pub small : SmallTo n (w .lengths) (w .counts) k
-  pub passed : Fit n w → PassedTo n w t k
+-- the entry at k, by the rooms
+abbrev pub entryAt : Rooms → ℕ → Entry
+entryAt w k = entry (take (getD (w .lengths) k 0) (drop (total (take k (w .lengths))) (w .text))) (getD (w .counts) k 0)
 
--- the search before `to` ended at k: at an equal entry, or passing all by
-pub record ScanIs (n : ℕ) (w : Rooms) (t : List ℕ) (to k s : ℕ) : Type 0 where
+-- none of the entries from..to can count up
+abbrev pub NoneUp : Rooms → List ℕ → ℕ → ℕ → Type 0
+NoneUp w t from to = Each (λ k. canCountUp t (entryAt w k) ≡ false) from to
+
+-- the first k entries use s bytes; in a pool whose n entries fit, k is the first of from..to that can count up, and with none it is `to`
+pub record UpAt (n : ℕ) (w : Rooms) (t : List ℕ) (from to k s : ℕ) : Type 0 where
+  pub after : from ≤ k
   pub within : k ≤ to
-  pub scanned : ScannedTo n w t k s
-  pub chosen : k < to → Fit n w → firstFreeOrEqual t (firstEntries n w) ≡ k
+  pub sum : SumTo (w .lengths) k s
+  pub before : Fit n w → NoneUp w t from k
+  pub here : k < to → Fit n w → canCountUp t (entryAt w k) ≡ true
 
--- the first k entries use s bytes and none of them is free or equal; in a pool whose entries fit, k is the choice
+-- the first k entries use s bytes and none of them is free; in a pool whose entries fit, k is 01's choice
 pub record FoundIs (n : ℕ) (w : Rooms) (t : List ℕ) (k s : ℕ) : Type 0 where
   pub within : k ≤ n
-  pub scanned : ScannedTo n w t k s
-  pub chosen : Fit n w → firstFreeOrEqual t (firstEntries n w) ≡ k
+  pub sum : SumTo (w .lengths) k s
+  pub counted : Counted (w .counts) 0 k
+  pub chosen : Fit n w → k ≡ firstFreeOrEqual t (firstEntries n w)
+
+-- k is the default choice, and the first k entries use s bytes
+pub record PreferredIs (n : ℕ) (w : Rooms) (t : List ℕ) (k s : ℕ) : Type 0 where
+  pub chosen : k ≡ equalThenFree t (firstEntries n w)
+  pub sum : s ≡ total (take k (w .lengths))

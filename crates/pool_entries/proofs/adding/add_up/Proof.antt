@@ -5,7 +5,7 @@ use lib.ListN.{take}
 use Rattle.common.specs.Lists.{total}
 use lib.Bits.{bitOr}
 use Rattle.pool_entries.specs.inner.Adding.{Short}
-use Rattle.pool_entries.proofs.Sums.{short-join, or-left, or-right}
+use Rattle.pool_entries.proofs.Sums.{each-join, or-left, or-right}
 use Rattle.pool_entries.proofs.adding.add_up.Statement.{statement}
 use Rattle.pool_entries.proofs.adding.add_up.Tie as tie
 
@@ -39,8 +39,7 @@ loop-again c =
       omega (arith, h .ensures .sum, l .loop .inv .2),
       omega (arith, h .ensures .few),
       λ (z : bitOr (l .loop .bits) (h .result .bits) ≤ 65535).
-          short-join (s .args .lengths .now) (s .args .from) (l .loop .i) (c .before .before .before .block-end .result)
-          (l .loop .inv .4 (omega (arith, or-left (l .loop .bits) (h .result .bits)))) (h .ensures .short (omega (arith, or-right (l .loop .bits) (h .result .bits)))),
+          each-join (l .loop .inv .4 (omega (arith, or-left (l .loop .bits) (h .result .bits)))) (h .ensures .short (omega (arith, or-right (l .loop .bits) (h .result .bits)))),
     )
 
 returns : tie.Need-returns Inv-loop μ-loop

@@ -6,7 +6,7 @@ use Rattle.common.specs.Answers.{Answer, gives}
 use Rattle.pool_entries.specs.Entries.{Rooms, rooms, firstEntries}
 use Rattle.pool_entries.specs.Choose.{firstFreeOrEqual}
 use Rattle.pool_entries.specs.Calls.{spotAt}
-use Rattle.pool_entries.proofs.Sound.{fits-few, judge-size, judge-out, judge-unsound, judge-used, judge-sound, judge-fit}
+use Rattle.pool_entries.proofs.Sound.{fits-few, counted-small, judge-size, judge-out, judge-unsound, judge-used, judge-sound, judge-fit}
 use Rattle.pool_entries.proofs.Look.{choose-over, choose-on, spot-found}
 use Rattle.pool_entries.proofs.choosing.choose.Statement.{statement}
 use Rattle.pool_entries.proofs.choosing.choose.Tie as tie
@@ -45,7 +45,7 @@ used-after-requires c κs =
     let s = c .before .before .before .before .before .before .before .before .before in
     let f = fits-few (s .args .num-strings) (s .args .codepage) (s .args .lengths .now) (s .args .counts .now) (sym (c .before .before .fits2 .ensures) ∙ not-false _ (c .before .if3 .left)) in
     let d = c .search .ensures in
-    ((f .lengths, f .counts, f .few, d .within), (d .scanned .sum, d .scanned .small))
+    ((f .lengths, f .counts, f .few, d .within), (d .sum, counted-small (s .args .num-strings) (s .args .lengths .now) (s .args .counts .now) (f .lengths) (f .counts) _ (d .within) (d .counted)))
 
 returns-4 : tie.Need-returns-4
 returns-4 c =
@@ -62,7 +62,7 @@ returns-5 c =
     let e = sym (c .before .u2 .given .1) ∙ c .before .before .before .used-after .ensures in
     let found = c .before .before .before .before .search .ensures in
     spot-found firstFreeOrEqual (s .args .num-strings) (s .args .codepage) (W s) (s .args .new .now) _ _ _
-    (sym (found .chosen (judge-fit (s .args .num-strings) (s .args .codepage) (W s) (Given s) hw f _ e))) (found .scanned .sum .is) (judge-used (s .args .num-strings) (s .args .codepage) (W s) (Given s) hw f _ e)
+    (found .chosen (judge-fit (s .args .num-strings) (s .args .codepage) (W s) (Given s) hw f _ e)) (found .sum .is) (judge-used (s .args .num-strings) (s .args .codepage) (W s) (Given s) hw f _ e)
     ∙ judge-sound (s .args .num-strings) (s .args .codepage) (W s) (Given s) hw f _ e
     ∙ choose-on firstFreeOrEqual (s .args .num-strings) (s .args .codepage) (W s) (s .args .new .now) (c .before .before .before .before .before .before .before .before .if1 .left)
 

@@ -20,9 +20,8 @@ use Rattle.order.specs.Order.{addFits, textFits}
 use Rattle.order.proofs.Laws.{add-fits}
 use Rattle.pool_entries.specs.Calls.{spotAt, chooseAnswer}
 use Rattle.pool_entries.proofs.Calls.{same-refusal, call-refused, call-passed, call-size, call-given, call-on}
-use Rattle.pool_entries.proofs.Places.{first-place}
 use Rattle.stringpool.specs.Pool.{Entry, entry, Rooms, entriesOf, texts, putBack, entryRoom, free, onSound}
-use Rattle.stringpool.specs.Take.{sameBytes, equal, firstFreeOrEqual, increased, takenAt, counting, takeAt, takeAnswer, takeOutcome}
+use Rattle.stringpool.specs.Take.{sameBytes, equal, Chooser, Legal, increased, takenAt, counting, takeAt, takeAnswer, takeOutcome}
 use Rattle.stringpool.specs.inner.Entries.{Fit}
 use Rattle.stringpool.specs.inner.Drop.{none}
 use Rattle.stringpool.specs.inner.Plan.{carried, Ready, Planned}
@@ -182,58 +181,58 @@ below t e h z = go (e .count =? 0) (sameBytes (e .text) t) (e .count <? 65535) r
     go false true false f g q = let y : _≡_ {A = ℕ} 0 1 = cc in absurd (omega arith)
     go false false false f g q = let y : _≡_ {A = ℕ} 0 1 = cc in absurd (omega arith)
 
--- what is known of the place k that a search found, whose text starts there, in a pool whose texts use so many bytes
-pub record Spotted (p : StringPool) (w : Rooms) (t : List ℕ) (k start used : ℕ) : Type 0 where
+-- what is known of the place k that a legal choice has, whose text starts there, in a pool whose texts use so many bytes
+pub record Spotted (choose : Chooser) (p : StringPool) (w : Rooms) (t : List ℕ) (k start used : ℕ) : Type 0 where
   pub known : Known p w t used (length (w .text)) (length t)
   pub within : k ≤ p .«num_strings»
   pub begins : start ≡ total (take k (w .lengths))
   pub below : k < p .«num_strings» → 0 < getD (w .counts) k 0 → getD (w .counts) k 0 < 65535
-  pub is : takeAt p w t k ≡ takeAnswer firstFreeOrEqual p w t
+  pub is : takeAt p w t k ≡ takeAnswer choose p w t
 
-module _ (p : StringPool) (w : Rooms) (t : List ℕ) where
+module _ (choose : Chooser) (p : StringPool) (w : Rooms) (t : List ℕ) where
   abbrev m : ℕ
   m = p .«num_strings»
 
-  abbrev first : ℕ
-  first = firstFreeOrEqual t (entriesOf p w)
+  abbrev chosen : ℕ
+  chosen = choose t (entriesOf p w)
 
   abbrev Spot : ℕ × ℕ × ℕ
-  Spot = spotAt m w first
+  Spot = spotAt m w chosen
 
   -- by whether the text is above the sizes
   abbrev By : {A : Type 0} → Answer A → Bool → Answer A
   By a b = if b then refused 22 nowhere else onSound p w a
 
-  pub take-refused : (x : Refusal) → refusedBy x ≡ chooseAnswer firstFreeOrEqual m (p .codepage) w t → Planned (takeOutcome firstFreeOrEqual p w t) (refusedBy x) (Refused x) w t
+  pub take-refused : (x : Refusal) → refusedBy x ≡ chooseAnswer choose m (p .codepage) w t → Planned (takeOutcome choose p w t) (refusedBy x) (Refused x) w t
   take-refused x e = refusing x (ap (outcome w) (go (268435455 <? length t) e))
     where
-      go : (b : Bool) → refusedBy x ≡ By (gives Spot) b → refusedBy x ≡ By (takeAt p w t first) b
+      go : (b : Bool) → refusedBy x ≡ By (gives Spot) b → refusedBy x ≡ By (takeAt p w t chosen) b
       go true q = same-refusal q
-      go false q = call-refused m (p .codepage) w Spot (takeAt p w t first) q
+      go false q = call-refused m (p .codepage) w Spot (takeAt p w t chosen) q
 
-  pub spotted : {y : ℕ × ℕ × ℕ} → gives y ≡ chooseAnswer firstFreeOrEqual m (p .codepage) w t → Spotted p w t (y .0) (y .1) (y .2)
-  spotted {y} e = go (268435455 <? length t) refl e
+  pub spotted : Legal choose → {y : ℕ × ℕ × ℕ} → gives y ≡ chooseAnswer choose m (p .codepage) w t → Spotted choose p w t (y .0) (y .1) (y .2)
+  spotted legal {y} e = go (268435455 <? length t) refl e
     where
-      go : (b : Bool) → (268435455 <? length t) ≡ b → gives y ≡ By (gives Spot) b → Spotted p w t (y .0) (y .1) (y .2)
+      go : (b : Bool) → (268435455 <? length t) ≡ b → gives y ≡ By (gives Spot) b → Spotted choose p w t (y .0) (y .1) (y .2)
       go true f q = absurd (refused-gives (sym q))
       go false f q =
           let g = call-passed m (p .codepage) w Spot q in
           let long = length-entries m w (g .fit) in
-          let at = first-place (λ (e : Entry). free e || equal t e) (entriesOf p w) in
-          subst (λ (x : ℕ × ℕ × ℕ). Spotted p w t (x .0) (x .1) (x .2)) (sym (call-given m (p .codepage) w Spot q))
+          let at = legal t (entriesOf p w) in
+          subst (λ (x : ℕ × ℕ × ℕ). Spotted choose p w t (x .0) (x .1) (x .2)) (sym (call-given m (p .codepage) w Spot q))
           (record {
             known = record { fit = g .fit; sum = refl; text = refl; new = refl; large = call-size m (p .codepage) w Spot q; small = ltb-false 268435455 (length t) f; few = g .few };
             within = omega (arith, at .0, long);
             begins = refl;
             below = λ h z.
-                let c : getD (entriesOf p w) first none .count ≡ getD (w .counts) first 0 = count-at m w (g .fit) first h in
-                omega (arith, below t (getD (entriesOf p w) first none) (at .1 (omega (arith, long, h))) (omega (arith, c, z)), c);
-            is = call-on m (p .codepage) w Spot q (takeAt p w t first) ∙ sym (ap (By (takeAt p w t first)) f);
+                let c : getD (entriesOf p w) chosen none .count ≡ getD (w .counts) chosen 0 = count-at m w (g .fit) chosen h in
+                omega (arith, below t (getD (entriesOf p w) chosen none) (at .1 (omega (arith, long, h))) (omega (arith, c, z)), c);
+            is = call-on m (p .codepage) w Spot q (takeAt p w t chosen) ∙ sym (ap (By (takeAt p w t chosen)) f);
           })
 
 -- a take at the place is the take
-pub taken-at : {p : StringPool} {w : Rooms} {t : List ℕ} {k start used : ℕ} {x : Plan} → Spotted p w t k start used → At p w t k x
-    → Planned (takeOutcome firstFreeOrEqual p w t) (takenBy p x) x w t
+pub taken-at : {choose : Chooser} {p : StringPool} {w : Rooms} {t : List ℕ} {k start used : ℕ} {x : Plan} → Spotted choose p w t k start used → At p w t k x
+    → Planned (takeOutcome choose p w t) (takenBy p x) x w t
 taken-at {w = w} s d = record { is = d .is ∙ ap (outcome w) (s .is); ready = d .ready }
 
 -- the place of an entry that is there, or is added, has a number

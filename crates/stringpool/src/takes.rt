@@ -9,15 +9,16 @@ use order::Fits;
 use order::add_fits;
 use pool_entries::Choice;
 use pool_entries::choose;
+use pool_entries::prefer;
 use pool_stream::entry_room;
 ghost use mathlib.Core.Path.{_≡_};
 ghost use Prim.Native.Nat.{ℕ, _≤_, _<_};
 ghost use mathlib.Core.List.{List};
 ghost use Rattle.common.specs.Answers.{outcome};
 ghost use Rattle.stringpool.specs.Pool.{Rooms, rooms, entryRoom};
-ghost use Rattle.stringpool.specs.Take.{takenAs, takeAt, takeOutcome, firstFreeOrEqual};
+ghost use Rattle.stringpool.specs.Take.{takenAs, takeAt, takeOutcome, Chooser, Legal, firstFreeOrEqual, equalThenFree};
 ghost use Rattle.stringpool.specs.inner.Plan.{Planned};
-ghost use Rattle.stringpool.specs.inner.Take.{Known, FreeAt, takenBy, holdingAt, Numbered};
+ghost use Rattle.stringpool.specs.inner.Take.{Known, FreeAt, Chosen, IsChosen, takenBy, holdingAt, Numbered};
 
 pub enum Taken {
     Ref(StringRef, StringPool),
@@ -26,7 +27,23 @@ pub enum Taken {
 
 impl StringPool {
     // One reference more on the text new: its number, and the pool after.
+    // The default: an equal entry that can count up, else the first free one, else a new one.
     pub fn incref(
+        self,
+        lengths: &mut [u32],
+        counts: &mut [u16],
+        text: &mut [u8],
+        new: &[u8],
+    ) -> Taken
+        ensures { λ a. ⌜ (takenAs a, rooms (now (lengths .exit)) (now (counts .exit)) (now (text .exit)))
+            ≡ takeOutcome equalThenFree self (rooms (now (lengths .entry)) (now (counts .entry)) (now (text .entry))) (now (new .entry)) ⌝ }
+    {
+        let choice = prefer(self.num_strings, self.codepage, lengths, counts, text, new);
+        take_chosen(self, choice, lengths, counts, text, new)
+    }
+
+    // Document 01's choice, the crate's: the first entry that is free or equal.
+    pub fn incref_first(
         self,
         lengths: &mut [u32],
         counts: &mut [u16],
@@ -36,19 +53,45 @@ impl StringPool {
         ensures { λ a. ⌜ (takenAs a, rooms (now (lengths .exit)) (now (counts .exit)) (now (text .exit)))
             ≡ takeOutcome firstFreeOrEqual self (rooms (now (lengths .entry)) (now (counts .entry)) (now (text .entry))) (now (new .entry)) ⌝ }
     {
-        let plan = plan_take(self, lengths, counts, text, new);
-        carry_out(plan, lengths, counts, text, new);
-        take_answer(self, plan)
+        let choice = choose(self.num_strings, self.codepage, lengths, counts, text, new);
+        take_chosen(self, choice, lengths, counts, text, new)
     }
 }
 
-// The sizes and the soundness are judged, the entry is chosen, and what follows is settled.
-fn plan_take(p: StringPool, lengths: &[u32], counts: &[u16], text: &[u8], new: &[u8]) -> Plan
-    ensures { λ r. ⌜ Planned (takeOutcome firstFreeOrEqual p (rooms (now (lengths .entry)) (now (counts .entry)) (now (text .entry))) (now (new .entry)))
-        (takenBy p r) r (rooms (now (lengths .entry)) (now (counts .entry)) (now (text .entry))) (now (new .entry)) ⌝ }
+// The take of the entry that a legal choice has.
+fn take_chosen(
+    p: StringPool,
+    choice: Choice,
+    lengths: &mut [u32],
+    counts: &mut [u16],
+    text: &mut [u8],
+    new: &[u8],
+) -> Taken
+    requires { ⌜ Chosen p (rooms (now lengths) (now counts) (now text)) (now new) choice ⌝ }
+    ensures { λ a. ⌜ ((by : Chooser) → Legal by → IsChosen by p (rooms (now (lengths .entry)) (now (counts .entry)) (now (text .entry))) (now (new .entry)) choice
+        → (takenAs a, rooms (now (lengths .exit)) (now (counts .exit)) (now (text .exit)))
+        ≡ takeOutcome by p (rooms (now (lengths .entry)) (now (counts .entry)) (now (text .entry))) (now (new .entry))) ⌝ }
+{
+    let plan = plan_take(p, choice, lengths, counts, text, new);
+    carry_out(plan, lengths, counts, text, new);
+    take_answer(p, plan)
+}
+
+// What follows for the entry that a legal choice has; where the choice was refused, the take is.
+fn plan_take(
+    p: StringPool,
+    choice: Choice,
+    lengths: &[u32],
+    counts: &[u16],
+    text: &[u8],
+    new: &[u8],
+) -> Plan
+    requires { ⌜ Chosen p (rooms (now lengths) (now counts) (now text)) (now new) choice ⌝ }
+    ensures { λ r. ⌜ ((by : Chooser) → Legal by → IsChosen by p (rooms (now (lengths .entry)) (now (counts .entry)) (now (text .entry))) (now (new .entry)) choice
+        → Planned (takeOutcome by p (rooms (now (lengths .entry)) (now (counts .entry)) (now (text .entry))) (now (new .entry)))
+        (takenBy p r) r (rooms (now (lengths .entry)) (now (counts .entry)) (now (text .entry))) (now (new .entry))) ⌝ }
 {
     let n = p.num_strings;
-    let choice = choose(n, p.codepage, lengths, counts, text, new);
     match choice {
         Choice::Refused(why) => Plan::Refused(why),
         Choice::At(spot) => {

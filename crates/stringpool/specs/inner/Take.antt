@@ -10,7 +10,9 @@ use Rattle.common.specs.Answers.{Answer, gives}
 use Rattle.common.specs.Refusals.{refusedBy}
 use Rattle.stringpool.specs.Pool.{Rooms}
 use Rattle.stringpool.specs.Refs.{referenceTo}
-use Rattle.stringpool.specs.Take.{counting}
+use Rattle.stringpool.specs.Take.{counting, Chooser, Legal}
+use Rattle.pool_entries.specs.Calls.{chosenAs, chooseAnswer}
+use Rattle.pool_entries.specs.declared.choosing.Choice.{Choice}
 use Rattle.stringpool.specs.inner.Entries.{Fit}
 use Rattle.stringpool.specs.declared.pool.StringPool.{StringPool}
 use Rattle.stringpool.specs.declared.entry.Plan.{Plan}
@@ -32,6 +34,16 @@ pub record FreeAt (n : ℕ) (w : Rooms) (k start old : ℕ) : Type 0 where
   pub free : getD (w .counts) k 0 ≡ 0
   pub begins : start ≡ total (take k (w .lengths))
   pub long : old ≡ getD (w .lengths) k 0
+
+-- a choice is what this chooser answers
+abbrev pub IsChosen : Chooser → StringPool → Rooms → List ℕ → Choice → Type 0
+IsChosen choose p w t c = chosenAs c ≡ chooseAnswer choose (p .«num_strings») (p .codepage) w t
+
+-- some legal chooser answers it
+pub record Chosen (p : StringPool) (w : Rooms) (t : List ℕ) (c : Choice) : Type 0 where
+  pub chooser : Chooser
+  pub legal : Legal chooser
+  pub is : IsChosen chooser p w t c
 
 -- the pool with an entry at k: one of its own, or one that is added
 abbrev pub holdingAt : StringPool → ℕ → StringPool

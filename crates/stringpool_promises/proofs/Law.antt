@@ -13,11 +13,11 @@ use Rattle.common.specs.Choice.{if_then_else_}
 use Rattle.common.specs.Answers.{Answer, gives, refused, Place, nowhere, onGiven, outcome}
 use Rattle.stringpool.specs.Pool.{Entry, Rooms, entriesOf, putBack, texts, entryRoom, sound, onSound}
 use Rattle.stringpool.specs.Refs.{onReference}
-use Rattle.stringpool.specs.Take.{sameBytes, Chooser, takenAt, counting, takeAt, takeAnswer}
+use Rattle.stringpool.specs.Take.{sameBytes, Chooser, Legal, takenAt, counting, takeAt, takeAnswer}
 use Rattle.stringpool.specs.Drop.{lessened, dropAt, dropAnswer}
 use Rattle.stringpool.specs.Show.{orEmpty}
-use Rattle.stringpool_promises.specs.Promises.{State, Call, take-of, drop-of, Legal, AllLegal, left, after, ran, SoundState, entries, shows, countOr0, count, accepted, sameNumber, answers, one, tally, sumFor, took, gaveUp, tookRef, gaveUpRef, StaysCounted, CountsKept, StaysSound, Op, takes, drops, asCall, CallsKept, KeptFromNew, KeptFromLoad}
-use Rattle.stringpool_promises.proofs.Choosers.{first-free-or-equal}
+use Rattle.stringpool_promises.specs.Promises.{State, Call, take-of, drop-of, AllLegal, left, after, ran, SoundState, entries, shows, countOr0, count, accepted, sameNumber, answers, one, tally, sumFor, took, gaveUp, tookRef, gaveUpRef, StaysCounted, CountsKept, StaysSound, Op, takes, takes-first, drops, asCall, CallsKept, KeptFromNew, KeptFromLoad, ChoosesLegally}
+use Rattle.pool_entries.proofs.Places.{first-free-or-equal, equal-then-free}
 use Rattle.stringpool.specs.inner.Drop.{none}
 use Rattle.stringpool.specs.declared.pool.StringPool.{StringPool}
 use Rattle.stringpool.proofs.Entries.{length-entries, length-texts-at, length-at}
@@ -423,9 +423,13 @@ counts-kept s cs l = record {
       ∙ keep-law r (ran s earlier) later (legal-later earlier later (subst AllLegal e l)) k;
 }
 
+pub chooses-legally : ChoosesLegally
+chooses-legally = (first-free-or-equal, equal-then-free)
+
 all-legal : (ops : List Op) → AllLegal (map asCall ops)
 all-legal [] = tt
-all-legal (takes t ∷ ops) = (first-free-or-equal, all-legal ops)
+all-legal (takes t ∷ ops) = (equal-then-free, all-legal ops)
+all-legal (takes-first t ∷ ops) = (first-free-or-equal, all-legal ops)
 all-legal (drops r ∷ ops) = all-legal ops
 
 pub calls-kept : CallsKept

@@ -1,5 +1,4 @@
 pub mod Back
-pub mod Choosers
 pub mod Kept
 pub mod Law
 pub mod Lists

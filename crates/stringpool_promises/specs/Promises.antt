@@ -3,15 +3,15 @@
 use Prim.Native.Nat.{ℕ, zero, suc, _+_, _≤_, _<_}
 use mathlib.Core.Path.{_≡_}
 use mathlib.Core.Logic.{_↔_}
-use mathlib.Core.Bool.{Bool, true, false, _&&_, _||_}
+use mathlib.Core.Bool.{Bool, true, false, _&&_}
 use mathlib.Core.List.{List, [], _∷_, _++_, map}
 use lib.ListN.{length, take, drop, getD}
 use lib.IntN.{ℤ, pos, negsuc}
 use Rattle.common.specs.Choice.{if_then_else_, _≤?_, _=?_}
 use Rattle.common.specs.Answers.{Answer, gives, refused}
 use Rattle.common.specs.Lists.{_over_, total}
-use Rattle.stringpool.specs.Pool.{Entry, entry, Rooms, entriesOf, entryRoom, sound, free}
-use Rattle.stringpool.specs.Take.{sameBytes, equal, Chooser, firstFreeOrEqual, takeOutcome}
+use Rattle.stringpool.specs.Pool.{Entry, Rooms, entriesOf, entryRoom, sound}
+use Rattle.stringpool.specs.Take.{sameBytes, Chooser, firstFreeOrEqual, equalThenFree, Legal, takeOutcome}
 use Rattle.stringpool.specs.Drop.{dropOutcome}
 use Rattle.stringpool.specs.Load.{Found, entryIn, loadOutcome}
 use Rattle.stringpool.specs.Load as load
@@ -30,12 +30,6 @@ pub record State : Type 0 where
 pub data Call : Type 0 where
   take-of : Chooser → List ℕ → Call
   drop-of : ℤ → Call
-
--- a free entry, or one with the same bytes and a count below 65,535, or a new one
-abbrev pub Legal : Chooser → Type 0
-Legal choose =
-    (t : List ℕ) (es : List Entry) → (choose t es ≤ length es)
-    × (choose t es < length es → (free (getD es (choose t es) (entry [] 0)) || equal t (getD es (choose t es) (entry [] 0))) ≡ true)
 
 abbrev pub AllLegal : List Call → Type 0
 AllLegal [] = Unit {0}
@@ -140,15 +134,18 @@ pub record Demand3 (s : State) (cs : List Call) : Type 0 where
 abbrev pub CountsKept : Type 0
 CountsKept = (s : State) (cs : List Call) → AllLegal cs → Demand3 s cs
 
--- takes and drops as `incref` and `decref` answer and leave them
+-- takes as `incref` (the default) and `incref_first` (the old choice) answer and leave them, and drops as `decref` does
 pub data Op : Type 0 where
   takes : List ℕ → Op
+  takes-first : List ℕ → Op
   drops : ℤ → Op
 
 abbrev pub asCall : Op → Call
-asCall (takes t) = take-of firstFreeOrEqual t
+asCall (takes t) = take-of equalThenFree t
+asCall (takes-first t) = take-of firstFreeOrEqual t
 asCall (drops r) = drop-of r
 
+-- document 02: "Demand 3 holds for any mixture of the two."
 abbrev pub CallsKept : Type 0
 CallsKept = (s : State) (ops : List Op) → Demand3 s (map asCall ops)
 
@@ -161,9 +158,9 @@ abbrev pub KeptFromLoad : Type 0
 KeptFromLoad = (s d : List ℕ) (w : Rooms) (p : StringPool) (v : Rooms) (ops : List Op) → loadOutcome s d w ≡ (gives p, v)
     → Demand3 (record { pool = p; rooms = v }) (map asCall ops)
 
--- the way of choosing is legal
+-- both ways of choosing are legal
 abbrev pub ChoosesLegally : Type 0
-ChoosesLegally = Legal firstFreeOrEqual
+ChoosesLegally = Legal firstFreeOrEqual × Legal equalThenFree
 
 -- ---- what is sound stays sound
 

@@ -213,7 +213,7 @@ sound-step s (drop-of r) l h = drop-sound s r h (drop-case (s .pool) (s .rooms) 
 
 -- ---- what is shown in a sound state
 
-on-sound-is : {A : Type 0} (s : State) → SoundState s → (a : Answer A) → onSound (s .pool) (s .rooms) a ≡ a
+pub on-sound-is : {A : Type 0} (s : State) → SoundState s → (a : Answer A) → onSound (s .pool) (s .rooms) a ≡ a
 on-sound-is s h a =
     ap₂ (λ (x y : Bool). if x then refused 22 nowhere else if not y then refused 24 nowhere else a) (le-ltb 268435455 (length (s .rooms .text)) (h .0)) (h .1)
 

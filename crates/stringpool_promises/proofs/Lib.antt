@@ -5,6 +5,7 @@ pub mod Lists
 pub mod Loading
 pub mod PageSound
 pub mod Points
+pub mod Prefer
 pub mod Same
 pub mod Sounds
 pub mod Steps

@@ -2,7 +2,7 @@
 use mathlib.Core.Path.{refl}
 use native.Mathlib.Omega.{arith}
 use Rattle.pool_entries.specs.Sound.{soundRooms}
-use Rattle.stringpool_promises.specs.Points.{Sums, Counts, Shown, MixedSums, MixedCounts, PlainStreams}
+use Rattle.stringpool_promises.specs.Points.{Sums, Counts, Shown, MixedSums, MixedCounts, DuplicatesStay, PlainStreams}
 
 pub sums : Sums
 unfolding soundRooms
@@ -23,6 +23,10 @@ mixed-sums = (refl, refl, refl, refl, refl, refl, refl, refl, refl, refl)
 pub mixed-counts : MixedCounts
 unfolding soundRooms
 mixed-counts = (refl, refl, refl, refl, refl, refl, refl, refl, refl, refl)
+
+pub duplicates-stay : DuplicatesStay
+unfolding soundRooms
+duplicates-stay = (refl, refl)
 
 pub plain-streams : PlainStreams
 plain-streams = ((refl, refl), λ q. omega (arith, q), (refl, refl), λ q. omega (arith, q), λ q. omega (arith, q), (refl, refl))

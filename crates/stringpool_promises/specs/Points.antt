@@ -1,11 +1,12 @@
--- Points: what demand 3 counts, on pool k of document 01, by the old choice and by both mixed; which streams are written back identically. Computed
--- from the definitions.
+-- Points: what demand 3 counts, on pool k of document 01, by the old choice and by both mixed; which streams are written back
+-- identically. Computed from the definitions.
 use mathlib.Core.Path.{_≡_}
-use mathlib.Core.Bool.{false}
+use mathlib.Core.Bool.{true, false}
 use mathlib.Core.List.{List, [], _∷_, map}
 use Prim.Native.Nat.{ℕ}
 use lib.IntN.{pos}
 use Rattle.stringpool.specs.Pool.{rooms}
+use Rattle.stringpool.specs.Take.{canCountUp, counting}
 use Rattle.stringpool_promises.specs.Promises.{State, Call, takes, takes-first, drops, asCall, ran, entries, shows, count, tally, sumFor, took, gaveUp, tookRef, gaveUpRef, Plain}
 
 -- "Name" twice, free, "" once
@@ -40,7 +41,7 @@ abbrev pub Shown : Type 0
 Shown = (shows k (pos 1) ≡ name) × (shows (ran k calls) (pos 1) ≡ name)
     × (shows (ran k (map asCall (drops (pos 1) ∷ drops (pos 1) ∷ takes-first (90 ∷ []) ∷ []))) (pos 1) ≡ 90 ∷ [])
 
--- ---- document 02: the default take and the old choice mixed
+-- ---- document 02: the default take, and both mixed
 
 -- "" by the default (3), by the old choice (2), by the default again (2, now the first equal one); drops of 3 until it is free; "Name" by the old choice
 -- (1); by the default two bytes that do not fit the free entry (6), and one that does (3)
@@ -60,6 +61,14 @@ MixedCounts = (tally (tookRef (pos 1)) k mixed ≡ 1) × (tally (gaveUpRef (pos 
     × (tally (tookRef (pos 2)) k mixed ≡ 2) × (tally (gaveUpRef (pos 2)) k mixed ≡ 0) × (count (ran k mixed) (pos 2) ≡ 2)
     × (tally (tookRef (pos 3)) k mixed ≡ 2) × (tally (gaveUpRef (pos 3)) k mixed ≡ 2) × (count (ran k mixed) (pos 3) ≡ 1)
     × (shows (ran k mixed) (pos 3) ≡ 90 ∷ [])
+
+-- not promised: that a text stands once. "A" 65,534 times, two takes by the default and a drop of 1: two entries that can count up
+abbrev pub nearlyFull : State
+nearlyFull = record { pool = counting (k .pool) 1; rooms = rooms (1 ∷ 9 ∷ []) (65534 ∷ 8 ∷ []) (65 ∷ 7 ∷ []) }
+
+abbrev pub DuplicatesStay : Type 0
+DuplicatesStay = (map (canCountUp (65 ∷ [])) (entries nearlyFull) ≡ true ∷ [])
+    × (map (canCountUp (65 ∷ [])) (entries (ran nearlyFull (map asCall (takes (65 ∷ []) ∷ takes (65 ∷ []) ∷ drops (pos 1) ∷ [])))) ≡ true ∷ true ∷ [])
 
 -- ---- what is written back
 

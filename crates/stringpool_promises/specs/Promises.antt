@@ -1,17 +1,18 @@
--- What is promised of a pool over several calls: demand 3, over any list of takes and drops; soundness; what is written reads back; what was read is
--- written back.
+-- What is promised of a pool over several calls: demand 3, over any list of takes and drops; an equal entry counts up; soundness; what is written
+-- reads back; what was read is written back.
 use Prim.Native.Nat.{ℕ, zero, suc, _+_, _≤_, _<_}
 use mathlib.Core.Path.{_≡_}
 use mathlib.Core.Logic.{_↔_}
 use mathlib.Core.Bool.{Bool, true, false, _&&_}
 use mathlib.Core.List.{List, [], _∷_, _++_, map}
-use lib.ListN.{length, take, drop, getD}
+use lib.ListN.{length, take, drop, getD, set}
 use lib.IntN.{ℤ, pos, negsuc}
 use Rattle.common.specs.Choice.{if_then_else_, _≤?_, _=?_}
 use Rattle.common.specs.Answers.{Answer, gives, refused}
 use Rattle.common.specs.Lists.{_over_, total}
-use Rattle.stringpool.specs.Pool.{Entry, Rooms, entriesOf, entryRoom, sound}
-use Rattle.stringpool.specs.Take.{sameBytes, Chooser, firstFreeOrEqual, equalThenFree, Legal, takeOutcome}
+use Rattle.stringpool.specs.Pool.{Entry, Rooms, rooms, entriesOf, entryRoom, sound}
+use Rattle.stringpool.specs.Refs.{referenceTo}
+use Rattle.stringpool.specs.Take.{sameBytes, firstPlace, Chooser, firstFreeOrEqual, canCountUp, equalThenFree, Legal, takeOutcome}
 use Rattle.stringpool.specs.Drop.{dropOutcome}
 use Rattle.stringpool.specs.Load.{Found, entryIn, loadOutcome}
 use Rattle.stringpool.specs.Load as load
@@ -161,6 +162,19 @@ KeptFromLoad = (s d : List ℕ) (w : Rooms) (p : StringPool) (v : Rooms) (ops : 
 -- both ways of choosing are legal
 abbrev pub ChoosesLegally : Type 0
 ChoosesLegally = Legal firstFreeOrEqual × Legal equalThenFree
+
+-- ---- the default take counts up the text that is there
+
+-- the rooms with one count one higher, and nothing else changed
+abbrev pub countedUp : Rooms → ℕ → Rooms
+countedUp w k = rooms (w .lengths) (set (w .counts) k (getD (w .counts) k 0 + 1)) (w .text)
+
+-- document 02: "under the default, 6, 11, 12 and 4 are not given while an equal entry can count up": the first such is answered, and its count is
+-- all that changes
+abbrev pub EqualCountsUp : Type 0
+EqualCountsUp = (s : State) (t : List ℕ) → SoundState s → length t ≤ maxBytes
+    → let k = firstPlace (canCountUp t) (entries s) in
+    k < length (entries s) → takeOutcome equalThenFree (s .pool) (s .rooms) t ≡ (gives (referenceTo k, s .pool), countedUp (s .rooms) k)
 
 -- ---- what is sound stays sound
 

@@ -1,19 +1,18 @@
 -- A new pool is sound, and one with another code page.
-use mathlib.Core.Path.{_≡_, refl, sym, ap, ap₂, subst, _∙_}
+use mathlib.Core.Path.{_≡_, refl, sym, ap, subst, _∙_}
 use Prim.Native.Nat.{ℕ, _≤_}
 use native.Mathlib.Omega.{arith}
-use mathlib.Core.Bool.{Bool, true, false, not}
+use mathlib.Core.Bool.{true, false}
 use lib.ListN.{length}
-use borrow.Author.Tests.{le-ltb}
-use Rattle.common.specs.Choice.{if_then_else_}
-use Rattle.common.specs.Answers.{gives, refused, nowhere}
+use Rattle.common.specs.Answers.{gives}
 use Rattle.order.specs.Order.{pageFits}
 use Rattle.order.proofs.Laws.{page-fits}
-use Rattle.stringpool.specs.Pool.{Rooms, sound, onSound}
+use Rattle.stringpool.specs.Pool.{Rooms, sound}
 use Rattle.stringpool.specs.Pages.{pageAnswer}
 use Rattle.stringpool_promises.specs.Promises.{SoundState, MakesSound, PageSound}
 use Rattle.stringpool.specs.declared.pool.StringPool.{StringPool}
 use Rattle.stringpool_promises.proofs.Sounds.{SoundFit, fit-sound, sound-fits}
+use Rattle.stringpool_promises.proofs.Law.{on-sound-is}
 use Rattle.stringpool_promises.proofs.Loading.{given, gave}
 
 abbrev paged : StringPool → ℕ → StringPool
@@ -41,6 +40,4 @@ makes-sound page w p size e =
 
 pub page-sound-law : PageSound
 page-sound-law page s p h e =
-    let on : onSound (s .pool) (s .rooms) (pageAnswer (s .pool) page) ≡ pageAnswer (s .pool) page =
-    ap₂ (λ (x y : Bool). if x then refused 22 nowhere else if not y then refused 24 nowhere else pageAnswer (s .pool) page) (le-ltb 268435455 (length (s .rooms .text)) (h .0)) (h .1) in
-    page-state (s .pool) page p (s .rooms) (h .0) (sound-fits (s .pool) (s .rooms) (h .1)) (sym on ∙ e)
+    page-state (s .pool) page p (s .rooms) (h .0) (sound-fits (s .pool) (s .rooms) (h .1)) (sym (on-sound-is s h (pageAnswer (s .pool) page)) ∙ e)

@@ -20,10 +20,10 @@ use Rattle.stringpool.specs.declared.takes.Taken.the-variants as taken
 use Rattle.stringpool.specs.declared.shows.Showable.{Showable}
 use Rattle.stringpool.specs.declared.shows.Showable.the-variants as showable
 use Rattle.stringpool.specs.Pool.{Rooms, sound, onSound, pooledAs}
-use Rattle.stringpool.specs.Take.{takenAs, takeAnswer, firstFreeOrEqual}
+use Rattle.stringpool.specs.Take.{Chooser, takenAs, takeAnswer}
 use Rattle.stringpool.specs.Show.{showAnswer, showableAs, orEmpty}
 use Rattle.cell.specs.Kinds.{refKind, refNumber as numberOfValue, valueKind, valueNumber}
-use Rattle.pool_values.specs.Pooled.{createdAs, createOutcome, shownAs, shownAnswer, textAnswer}
+use Rattle.pool_values.specs.Pooled.{createdAs, plainAnswer, createOutcome, shownAs, shownAnswer, textAnswer}
 use Rattle.pool_values.specs.inner.Pooled.{createdOf, plainOf, keptBy, shownOf}
 use Rattle.cell.specs.declared.value.ValueRef.{ValueRef}
 use Rattle.cell.specs.declared.value.ValueRef.the-variants as ref
@@ -118,15 +118,18 @@ module _ (v : ValueRef) (p : StringPool) (w : Rooms) where
       go false true = refl
       go false false = refl
 
--- ---- what is created of a value that is no text
+-- ---- what is created
 
-module _ (v : Value) (new : List ℕ) (p : StringPool) (w : Rooms) (k : (valueKind v =? 2) ≡ false) where
-  pub over-size : maxBytes < length new → (refused 22 nowhere, w) ≡ createOutcome (valueKind v) (valueNumber v) new p w
-  over-size h = rw (k, lt-ltb maxBytes (length new) h)
+module _ (v : Value) (new : List ℕ) (p : StringPool) (w : Rooms) where
+  abbrev Plain : Answer ((ℕ × ℤ) × StringPool) × Rooms
+  Plain = outcome w (plainAnswer (valueKind v) (valueNumber v) new p w)
+
+  pub over-size : maxBytes < length new → (refused 22 nowhere, w) ≡ Plain
+  over-size h = rw (lt-ltb maxBytes (length new) h)
 
   module _ (h : length new ≤ maxBytes) where
-    pub create-refused : {A : Type 0} (a : A) (x : Refusal) → refusedBy x ≡ refusalOf (onSound p w (gives a)) → (refusedBy x, w) ≡ createOutcome (valueKind v) (valueNumber v) new p w
-    create-refused a x e = rw (k, le-ltb maxBytes (length new) h) (sym (ap (outcome w) (unsound p w a _ (numberOf x) (whereOf x) e)))
+    pub plain-refused : {A : Type 0} (a : A) (x : Refusal) → refusedBy x ≡ refusalOf (onSound p w (gives a)) → (refusedBy x, w) ≡ Plain
+    plain-refused a x e = rw (le-ltb maxBytes (length new) h) (sym (ap (outcome w) (unsound p w a _ (numberOf x) (whereOf x) e)))
 
     plain-is : (v : Value) → (valueKind v =? 2) ≡ false → _≡_ {A = ℕ × ℤ} (refKind (plainOf v), numberOfValue (plainOf v)) (valueKind v, valueNumber v)
     plain-is plain.Null e = refl
@@ -134,12 +137,15 @@ module _ (v : Value) (new : List ℕ) (p : StringPool) (w : Rooms) (k : (valueKi
     plain-is plain.Str e = absurd (true≢false e)
     plain-is plain.Binary e = refl
 
-    pub create-plain : {A : Type 0} (a : A) → gives tt ≡ refusalOf (onSound p w (gives a))
-        → (createdAs (createds.Value (plainOf v) p), w) ≡ createOutcome (valueKind v) (valueNumber v) new p w
-    create-plain a e =
-        rw (k, le-ltb maxBytes (length new) h)
+    pub plain-given : (valueKind v =? 2) ≡ false → {A : Type 0} (a : A) → gives tt ≡ refusalOf (onSound p w (gives a)) → (createdAs (createds.Value (plainOf v) p), w) ≡ Plain
+    plain-given k a e =
+        rw (le-ltb maxBytes (length new) h)
         (ap (λ (c : ℕ × ℤ). (gives (c, p), w)) (plain-is v k) ∙ sym (ap (outcome w) (is-sound p w a (gives (((valueKind v, valueNumber v), p), w)) e)))
 
-pub create-text : (v : Value) (new : List ℕ) (p : StringPool) (w left : Rooms) (t : Taken) → (valueKind v =? 2) ≡ true
-    → (takenAs t, left) ≡ outcome w (takeAnswer firstFreeOrEqual p w new) → (createdAs (createdOf t), left) ≡ createOutcome (valueKind v) (valueNumber v) new p w
-create-text v new p w left t k e = rw k (created t w left (takeAnswer firstFreeOrEqual p w new) e)
+  module _ (choose : Chooser) where
+    pub create-plain : {x : Answer ((ℕ × ℤ) × StringPool) × Rooms} → (valueKind v =? 2) ≡ false → x ≡ Plain → x ≡ createOutcome choose (valueKind v) (valueNumber v) new p w
+    create-plain k e = rw k e
+
+    pub create-text : (left : Rooms) (t : Taken) → (valueKind v =? 2) ≡ true
+        → (takenAs t, left) ≡ outcome w (takeAnswer choose p w new) → (createdAs (createdOf t), left) ≡ createOutcome choose (valueKind v) (valueNumber v) new p w
+    create-text left t k e = rw k (created t w left (takeAnswer choose p w new) e)

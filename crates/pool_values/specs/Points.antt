@@ -8,35 +8,36 @@ use lib.ListN.{length}
 use Rattle.common.specs.Answers.{gives, refused, nowhere}
 use Rattle.stringpool.specs.declared.pool.StringPool.{StringPool}
 use Rattle.stringpool.specs.Pool.{Rooms, rooms, sound}
+use Rattle.stringpool.specs.Take.{Chooser}
 use Rattle.pool_values.specs.Pooled.{createAnswer, removeAnswer, shownAnswer, textAnswer}
 
 -- rooms with no text, of a state that is sound or not
 abbrev pub OnState : Bool → (StringPool → Rooms → Type 0) → Type 0
 OnState is P = (p : StringPool) (lengths counts : List ℕ) → sound p (rooms lengths counts []) ≡ is → P p (rooms lengths counts [])
 
--- "22 first, then 24": a text of 268,435,456 bytes is 22 whatever the state, beside a value that is no text (Null) as for a text; so is a text room of
--- that size; a text of one byte less is judged on
+-- "22 first, then 24": a text of 268,435,456 bytes is 22 whatever the state and the choice, beside a value that is no text (Null) as for a text;
+-- so is a text room of that size; a text of one byte less is judged on
 abbrev pub SizeFirst : Type 0
 SizeFirst =
-    ((p : StringPool) (w : Rooms) (new : List ℕ) → length new ≡ 268435456 → createAnswer 0 (pos 0) new p w ≡ refused 22 nowhere)
-    × ((p : StringPool) (w : Rooms) (new : List ℕ) → length new ≡ 268435456 → createAnswer 2 (pos 0) new p w ≡ refused 22 nowhere)
-    × ((p : StringPool) (lengths counts text : List ℕ) → length text ≡ 268435456 → createAnswer 0 (pos 0) [] p (rooms lengths counts text) ≡ refused 22 nowhere)
+    ((choose : Chooser) (p : StringPool) (w : Rooms) (new : List ℕ) → length new ≡ 268435456 → createAnswer choose 0 (pos 0) new p w ≡ refused 22 nowhere)
+    × ((choose : Chooser) (p : StringPool) (w : Rooms) (new : List ℕ) → length new ≡ 268435456 → createAnswer choose 2 (pos 0) new p w ≡ refused 22 nowhere)
+    × ((choose : Chooser) (p : StringPool) (lengths counts text : List ℕ) → length text ≡ 268435456 → createAnswer choose 0 (pos 0) [] p (rooms lengths counts text) ≡ refused 22 nowhere)
     × ((p : StringPool) (lengths counts text : List ℕ) → length text ≡ 268435456 → removeAnswer 0 (pos 0) p (rooms lengths counts text) ≡ refused 22 nowhere)
-    × ((new : List ℕ) → length new ≡ 268435455 → OnState true (λ p w. createAnswer 0 (pos 0) new p w ≡ gives (((0, pos 0), p), w)))
+    × ((choose : Chooser) (new : List ℕ) → length new ≡ 268435455 → OnState true (λ p w. createAnswer choose 0 (pos 0) new p w ≡ gives (((0, pos 0), p), w)))
 
 -- 24 next, for every value: an unsound state is refused though nothing would be taken, dropped or shown, and before the 8 of a reference of 0;
 -- a sound one is left as it is
 abbrev pub JudgedToo : Type 0
 JudgedToo =
-    OnState false (λ p w. createAnswer 1 (pos 7) [] p w ≡ refused 24 nowhere)
-    × OnState false (λ p w. createAnswer 2 (pos 0) [] p w ≡ refused 24 nowhere)
+    ((choose : Chooser) → OnState false (λ p w. createAnswer choose 1 (pos 7) [] p w ≡ refused 24 nowhere))
+    × ((choose : Chooser) → OnState false (λ p w. createAnswer choose 2 (pos 0) [] p w ≡ refused 24 nowhere))
     × OnState false (λ p w. removeAnswer 1 (pos 7) p w ≡ refused 24 nowhere)
     × OnState false (λ p w. shownAnswer 1 (pos 7) p w ≡ refused 24 nowhere)
     × OnState false (λ p w. textAnswer 1 (pos 7) p w ≡ refused 24 nowhere)
     × OnState false (λ p w. removeAnswer 2 (pos 0) p w ≡ refused 24 nowhere)
     × OnState false (λ p w. shownAnswer 2 (pos 0) p w ≡ refused 24 nowhere)
     × OnState false (λ p w. textAnswer 2 (pos 0) p w ≡ refused 24 nowhere)
-    × OnState true (λ p w. createAnswer 1 (pos 7) [] p w ≡ gives (((1, pos 7), p), w))
+    × ((choose : Chooser) → OnState true (λ p w. createAnswer choose 1 (pos 7) [] p w ≡ gives (((1, pos 7), p), w)))
     × OnState true (λ p w. removeAnswer 1 (pos 7) p w ≡ gives (p, w))
     × OnState true (λ p w. shownAnswer 1 (pos 7) p w ≡ gives (1, pos 7))
     × OnState true (λ p w. textAnswer 1 (pos 7) p w ≡ gives [])

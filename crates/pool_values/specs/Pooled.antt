@@ -9,7 +9,7 @@ use Rattle.common.specs.Answers.{Answer, gives, refused, nowhere, onGiven, outc
 use Rattle.common.specs.Refusals.{refusedBy}
 use Rattle.stringpool.specs.declared.pool.StringPool.{StringPool}
 use Rattle.stringpool.specs.Pool.{Rooms, onSound}
-use Rattle.stringpool.specs.Take.{takeAnswer, firstFreeOrEqual}
+use Rattle.stringpool.specs.Take.{Chooser, takeAnswer}
 use Rattle.stringpool.specs.Drop.{dropAnswer}
 use Rattle.stringpool.specs.Show.{showAnswer}
 use Rattle.cell.specs.Kinds.{refKind, refNumber, valueKind, valueNumber}
@@ -18,15 +18,18 @@ use Rattle.pool_values.specs.declared.Created.the-variants as created
 use Rattle.pool_values.specs.declared.Shown.{Shown}
 use Rattle.pool_values.specs.declared.Shown.the-variants as shown
 
--- a text is taken; any other value leaves the pool as it is, after 22 for the text and for the room, and 24
-abbrev pub createAnswer : ℕ → ℤ → List ℕ → StringPool → Rooms → Answer (((ℕ × ℤ) × StringPool) × Rooms)
-createAnswer kind n new p w =
-    if kind =? 2 then onGiven (takeAnswer firstFreeOrEqual p w new) (λ x. gives (((2, x .0 .0), x .0 .1), x .1))
-    else if maxBytes <? length new then refused 22 nowhere
-    else onSound p w (gives (((kind, n), p), w))
+-- a value that is no text leaves the pool as it is, after 22 for the text and for the room, and 24
+abbrev pub plainAnswer : ℕ → ℤ → List ℕ → StringPool → Rooms → Answer (((ℕ × ℤ) × StringPool) × Rooms)
+plainAnswer kind n new p w = if maxBytes <? length new then refused 22 nowhere else onSound p w (gives (((kind, n), p), w))
 
-abbrev pub createOutcome : ℕ → ℤ → List ℕ → StringPool → Rooms → Answer ((ℕ × ℤ) × StringPool) × Rooms
-createOutcome kind n new p w = outcome w (createAnswer kind n new p w)
+-- a text is taken, by that choice
+abbrev pub createAnswer : Chooser → ℕ → ℤ → List ℕ → StringPool → Rooms → Answer (((ℕ × ℤ) × StringPool) × Rooms)
+createAnswer choose kind n new p w =
+    if kind =? 2 then onGiven (takeAnswer choose p w new) (λ x. gives (((2, x .0 .0), x .0 .1), x .1))
+    else plainAnswer kind n new p w
+
+abbrev pub createOutcome : Chooser → ℕ → ℤ → List ℕ → StringPool → Rooms → Answer ((ℕ × ℤ) × StringPool) × Rooms
+createOutcome choose kind n new p w = outcome w (createAnswer choose kind n new p w)
 
 -- a reference is dropped
 abbrev pub removeAnswer : ℕ → ℤ → StringPool → Rooms → Answer (StringPool × Rooms)

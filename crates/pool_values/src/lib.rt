@@ -10,11 +10,14 @@ use stringpool::StringRef;
 use stringpool::Taken;
 ghost use mathlib.Core.Path.{_≡_};
 ghost use Rattle.stringpool.specs.Pool.{rooms, pooledAs};
+ghost use Rattle.stringpool.specs.Take.{firstFreeOrEqual, equalThenFree};
 ghost use Rattle.stringpool.specs.Show.{orEmpty};
 ghost use Rattle.cell.specs.Kinds.{refKind, refNumber, valueKind, valueNumber};
-ghost use Rattle.pool_values.specs.Pooled.{createdAs, createOutcome, removeOutcome, shownAs, shownAnswer, textAnswer};
+ghost use Rattle.pool_values.specs.Pooled.{createdAs, plainAnswer, createOutcome, removeOutcome, shownAs, shownAnswer, textAnswer};
 ghost use Rattle.pool_values.specs.inner.Pooled.{createdOf, plainOf, keptBy, shownOf};
 ghost use Rattle.common.specs.Choice.{if_then_else_, _=?_};
+ghost use Rattle.common.specs.Answers.{outcome};
+ghost use mathlib.Core.Bool.{false};
 ghost use lib.IntN.{pos};
 
 pub enum Created {
@@ -27,7 +30,7 @@ pub enum Shown {
     Refused(Refusal),
 }
 
-// A text is taken into the pool; any other value leaves it as it is.
+// A text is taken into the pool, by the default choice; any other value leaves it as it is.
 pub fn create(
     value: Value,
     new: &[u8],
@@ -37,19 +40,30 @@ pub fn create(
     text: &mut [u8],
 ) -> Created
     ensures { λ a. ⌜ (createdAs a, rooms (now (lengths .exit)) (now (counts .exit)) (now (text .exit)))
-        ≡ createOutcome (valueKind value) (valueNumber value) (now (new .entry)) pool (rooms (now (lengths .entry)) (now (counts .entry)) (now (text .entry))) ⌝ }
+        ≡ createOutcome equalThenFree (valueKind value) (valueNumber value) (now (new .entry)) pool (rooms (now (lengths .entry)) (now (counts .entry)) (now (text .entry))) ⌝ }
 {
     if is_text(value) {
         return created_of(pool.incref(lengths, counts, text, new));
     }
-    if MAX_BYTES < new.len() {
-        return Created::Refused(Refusal::OverSize);
+    create_plain(value, new, pool, lengths, counts, text)
+}
+
+// The same by the old choice, document 01's.
+pub fn create_first(
+    value: Value,
+    new: &[u8],
+    pool: StringPool,
+    lengths: &mut [u32],
+    counts: &mut [u16],
+    text: &mut [u8],
+) -> Created
+    ensures { λ a. ⌜ (createdAs a, rooms (now (lengths .exit)) (now (counts .exit)) (now (text .exit)))
+        ≡ createOutcome firstFreeOrEqual (valueKind value) (valueNumber value) (now (new .entry)) pool (rooms (now (lengths .entry)) (now (counts .entry)) (now (text .entry))) ⌝ }
+{
+    if is_text(value) {
+        return created_of(pool.incref_first(lengths, counts, text, new));
     }
-    let sound = pool.get_refusal(lengths, counts, text, StringRef::MIN);
-    if let Showable::Refused(refusal) = sound {
-        return Created::Refused(refusal);
-    }
-    Created::Value(plain_of(value), pool)
+    create_plain(value, new, pool, lengths, counts, text)
 }
 
 // A reference is dropped; any other value leaves the pool as it is.
@@ -103,6 +117,30 @@ pub fn to_text<'a>(
         return pool.get(lengths, counts, text, value.number());
     }
     &text[..0]
+}
+
+// What is created of a value that is no text.
+fn create_plain(
+    value: Value,
+    new: &[u8],
+    pool: StringPool,
+    lengths: &[u32],
+    counts: &[u16],
+    text: &[u8],
+) -> Created
+    requires { ⌜ (valueKind value =? 2) ≡ false ⌝ }
+    ensures { λ a. ⌜ (createdAs a, rooms (now (lengths .entry)) (now (counts .entry)) (now (text .entry)))
+        ≡ outcome (rooms (now (lengths .entry)) (now (counts .entry)) (now (text .entry)))
+        (plainAnswer (valueKind value) (valueNumber value) (now (new .entry)) pool (rooms (now (lengths .entry)) (now (counts .entry)) (now (text .entry)))) ⌝ }
+{
+    if MAX_BYTES < new.len() {
+        return Created::Refused(Refusal::OverSize);
+    }
+    let sound = pool.get_refusal(lengths, counts, text, StringRef::MIN);
+    if let Showable::Refused(refusal) = sound {
+        return Created::Refused(refusal);
+    }
+    Created::Value(plain_of(value), pool)
 }
 
 fn created_of(taken: Taken) -> Created

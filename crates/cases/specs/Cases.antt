@@ -69,7 +69,7 @@ j = case (bits (pos 0x503)) (refuses 13 (column 0))
 abbrev pub k : Case
 k = case (loaded kPool kData) (pool 1252 ((gives kData, gives 2) ∷ (gives [], gives 0) ∷ (gives [], gives 1) ∷ []))
 
--- l On k, take of "": answers 2, a duplicate: "Name" twice, "" once, "" once
+-- l On k, take of "" by the first free or equal: answers 2, a duplicate: "Name" twice, "" once, "" once
 abbrev pub l : Case
 l = case (taken kPool kData []) (answers (pos 2) ((gives kData, gives 2) ∷ (gives [], gives 1) ∷ (gives [], gives 1) ∷ []))
 

@@ -29,7 +29,7 @@ pub data Asked : Type 0 where
   bits : ℤ → Asked
   -- a pool stream and a data stream, loaded
   loaded : List ℕ → List ℕ → Asked
-  -- a take of a text on what these streams load
+  -- a take of a text on what these streams load, by the first free or equal
   taken : List ℕ → List ℕ → List ℕ → Asked
 
 -- of each reference in use, from 1 on, the text and the count
@@ -61,7 +61,7 @@ room = rooms (replicate 4 0) (replicate 4 0) (replicate 6 0)
 abbrev pub output : List ℕ
 output = replicate 8 0
 
--- "On k": a take on what a load answered and left; where that was refused, its refusal
+-- "On k": a take by the first free or equal on what a load answered and left; where that was refused, its refusal
 abbrev pub takeOn : List ℕ → Answer StringPool × Rooms → Answer (ℤ × StringPool) × Rooms
 takeOn text (gives p, w) = takeOutcome firstFreeOrEqual p w text
 takeOn text (refused n at, w) = (refused n at, w)

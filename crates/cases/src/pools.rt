@@ -17,7 +17,7 @@ pub struct Pool {
     pub text: [u8; 6],
 }
 
-// What `incref` answers, and the rooms afterwards.
+// What `incref_first` answers, and the rooms afterwards.
 pub struct Take {
     pub answer: Taken,
     pub lengths: [u32; 4],
@@ -41,7 +41,7 @@ pub fn loaded(pool: &[u8], texts: &[u8]) -> Pool
     }
 }
 
-// A take on what was loaded.
+// A take on what was loaded, by the first free or equal: document 01's choice, which case l names.
 pub fn taken_on(pool: Pool, new: &[u8]) -> Take
     ensures { λ r. ⌜ (takenAs (r .answer), rooms (r .lengths) (r .counts) (r .text))
         ≡ takeOn (now (new .entry)) (pooledAs (pool .answer), rooms (pool .lengths) (pool .counts) (pool .text)) ⌝ }
@@ -52,7 +52,7 @@ pub fn taken_on(pool: Pool, new: &[u8]) -> Take
     let before = pool.answer;
     match before {
         Pooled::Is(state) => {
-            let answer = state.incref(&mut lengths, &mut counts, &mut text, new);
+            let answer = state.incref_first(&mut lengths, &mut counts, &mut text, new);
             Take {
                 answer,
                 lengths,

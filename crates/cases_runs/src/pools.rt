@@ -92,5 +92,8 @@ pub(crate) fn cases() {
         b"k Pool E4 04 00 00, 04 00 02 00, 00 00 00 00, 00 00 01 00 00 00 00 00 with data 4E 61 6D 65:",
         cases::case_k(),
     );
-    take(b"l On k, take of \"\":", cases::case_l());
+    take(
+        b"l On k, take of \"\" by the first free or equal:",
+        cases::case_l(),
+    );
 }

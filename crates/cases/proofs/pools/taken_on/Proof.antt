@@ -3,7 +3,7 @@ use Rattle.cases.proofs.pools.taken_on.Statement.{statement}
 use Rattle.cases.proofs.pools.taken_on.Tie as tie
 
 returns : tie.Need-returns
-returns c = rw (c .before .before .before .before .before .before .before .before .before2 .given .1) (c .before .before .before .incref-first .ensures)
+returns c = rw (c .before .before .before .before .before .before .before .before .before2 .given .1) (search needs)
 
 pub taken-on-spec : {M : Type 1} → statement M
 taken-on-spec =

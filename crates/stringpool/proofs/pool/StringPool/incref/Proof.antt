@@ -5,10 +5,10 @@ use Rattle.stringpool.proofs.pool.StringPool.incref.Statement.{statemen
 use Rattle.stringpool.proofs.pool.StringPool.incref.Tie as tie
 
 take-chosen-requires : tie.Need-take-chosen-requires
-take-chosen-requires c κs = record { chooser = equalThenFree; legal = equal-then-free; is = c .before .before .before .prefer .ensures }
+take-chosen-requires c κs = record { chooser = equalThenFree; legal = equal-then-free; is = search needs }
 
 returns : tie.Need-returns
-returns c = c .before .before .before .before .before .before .take-chosen .ensures equalThenFree equal-then-free (c .before .before .before .before .before .before .before .before .before .before .prefer .ensures)
+returns c = c .before .before .before .before .before .before .take-chosen .ensures equalThenFree equal-then-free (search needs)
 
 pub incref-spec : {M : Type 1} → statement M
 incref-spec =

@@ -5,10 +5,10 @@ use Rattle.stringpool.proofs.pool.StringPool.incref_first.Statement.{st
 use Rattle.stringpool.proofs.pool.StringPool.incref_first.Tie as tie
 
 take-chosen-requires : tie.Need-take-chosen-requires
-take-chosen-requires c κs = record { chooser = firstFreeOrEqual; legal = first-free-or-equal; is = c .before .before .before .choose .ensures }
+take-chosen-requires c κs = record { chooser = firstFreeOrEqual; legal = first-free-or-equal; is = search needs }
 
 returns : tie.Need-returns
-returns c = c .before .before .before .before .before .before .take-chosen .ensures firstFreeOrEqual first-free-or-equal (c .before .before .before .before .before .before .before .before .before .before .choose .ensures)
+returns c = c .before .before .before .before .before .before .take-chosen .ensures firstFreeOrEqual first-free-or-equal (search needs)
 
 pub incref-first-spec : {M : Type 1} → statement M
 incref-first-spec =

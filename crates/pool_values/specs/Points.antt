@@ -2,14 +2,15 @@
 use Prim.Native.Nat.{ℕ}
 use mathlib.Core.Path.{_≡_}
 use mathlib.Core.Bool.{Bool, true, false}
-use mathlib.Core.List.{List, []}
+use mathlib.Core.List.{List, [], _∷_}
 use lib.IntN.{pos}
 use lib.ListN.{length}
 use Rattle.common.specs.Answers.{gives, refused, nowhere}
 use Rattle.stringpool.specs.declared.pool.StringPool.{StringPool}
 use Rattle.stringpool.specs.Pool.{Rooms, rooms, sound}
-use Rattle.stringpool.specs.Take.{Chooser}
-use Rattle.pool_values.specs.Pooled.{createAnswer, removeAnswer, shownAnswer, textAnswer}
+use Rattle.stringpool.specs.Take.{Chooser, firstFreeOrEqual, equalThenFree}
+use Rattle.stringpool.specs.Points.{short, kRooms}
+use Rattle.pool_values.specs.Pooled.{createAnswer, createOutcome, removeAnswer, shownAnswer, textAnswer}
 
 -- rooms with no text, of a state that is sound or not
 abbrev pub OnState : Bool → (StringPool → Rooms → Type 0) → Type 0
@@ -41,3 +42,9 @@ JudgedToo =
     × OnState true (λ p w. removeAnswer 1 (pos 7) p w ≡ gives (p, w))
     × OnState true (λ p w. shownAnswer 1 (pos 7) p w ≡ gives (1, pos 7))
     × OnState true (λ p w. textAnswer 1 (pos 7) p w ≡ gives [])
+
+-- a text is taken by the choice that is asked for: "" on document 01's pool k is the third by default, which counts up, and the free second by the old choice
+abbrev pub CreatedBy : Type 0
+CreatedBy =
+    (createOutcome equalThenFree 2 (pos 0) [] (short 3) kRooms ≡ (gives ((2, pos 3), short 3), rooms (kRooms .lengths) (2 ∷ 0 ∷ 2 ∷ []) (kRooms .text)))
+    × (createOutcome firstFreeOrEqual 2 (pos 0) [] (short 3) kRooms ≡ (gives ((2, pos 2), short 3), rooms (kRooms .lengths) (2 ∷ 1 ∷ 1 ∷ []) (kRooms .text)))

@@ -16,7 +16,7 @@ use Rattle.stringpool.specs.Pool.{Rooms, entriesOf, entryRoom, texts, pu
 use Rattle.stringpool.specs.Refs.{referenceTo}
 use Rattle.stringpool.specs.Take.{takenAt, counting}
 use Rattle.stringpool.specs.declared.pool.StringPool.{StringPool}
-use Rattle.stringpool.specs.Points.{DropOrder, CountsDown, FreeWithBytes, FreeExactly, ChoiceStays, CountFull, EntryRoom, FullFirst, NothingButSix, UnsoundFirst, UnsoundThen, UnsoundTake, CodePage, Marked, OutputRoom, LoadInOrder, Showing, TakeSize, RoomSize, RoomBefore6}
+use Rattle.stringpool.specs.Points.{DropOrder, CountsDown, FreeWithBytes, FreeExactly, ChoiceStays, CountsUpThere, NeedsNoRoom, CountFull, EntryRoom, FullFirst, NothingButSix, UnsoundFirst, UnsoundThen, UnsoundTake, CodePage, Marked, OutputRoom, LoadInOrder, Showing, TakeSize, RoomSize, RoomBefore6}
 
 -- a take at k by its first three tests
 abbrev By : StringPool → Rooms → List ℕ → ℕ → Bool → Bool → Bool → Answer ((ℤ × StringPool) × Rooms)
@@ -42,19 +42,27 @@ free-with-bytes = refl
 
 pub free-exactly : FreeExactly
 unfolding soundRooms entryBytes
-free-exactly = (refl, refl)
+free-exactly = ((refl, refl), (refl, refl))
 
 pub choice-stays : ChoiceStays
 unfolding soundRooms entryBytes
-choice-stays = refl
+choice-stays = (refl, (refl, refl))
+
+pub counts-up-there : CountsUpThere
+unfolding soundRooms entryBytes
+counts-up-there = (refl, refl)
+
+pub needs-no-room : NeedsNoRoom
+unfolding soundRooms entryBytes
+needs-no-room = (refl, refl, refl, refl, refl)
 
 pub count-full : CountFull
 unfolding soundRooms entryBytes
-count-full = (refl, refl, refl)
+count-full = ((refl, refl, refl), (refl, refl, refl))
 
 pub entry-room : EntryRoom
 unfolding soundRooms entryBytes
-entry-room = (refl, refl, refl)
+entry-room = ((refl, refl, refl), (refl, refl, refl))
 
 pub full-first : FullFirst
 full-first = (
@@ -82,7 +90,7 @@ unsound-then = (refl, refl, refl)
 
 pub unsound-take : UnsoundTake
 unfolding soundRooms entryBytes
-unsound-take = refl
+unsound-take choose = refl
 
 pub code-page : CodePage
 unfolding soundRooms entryBytes
@@ -106,11 +114,11 @@ showing = (refl, refl, refl, refl, refl, refl, refl, refl, refl, refl)
 
 pub take-size : TakeSize
 unfolding soundRooms entryBytes
-take-size = (λ t e. rw e, λ t e. rw e, λ t e. rw e)
+take-size = ((λ t e. rw e, λ t e. rw e), λ choose t e. (rw e, rw e))
 
 pub room-before-6 : RoomBefore6
 unfolding soundRooms entryBytes
-room-before-6 = refl
+room-before-6 = (refl, refl)
 
 pub room-size : RoomSize
 room-size p w h = (

@@ -12,7 +12,7 @@ use Rattle.order.specs.Order.{textFits}
 use Rattle.stringpool.specs.Pool.{Rooms, rooms, entriesOf, texts, putBack}
 use Rattle.stringpool.specs.Refs.{referenceTo}
 use Rattle.stringpool.specs.Show.{showAnswer, refcountAnswer}
-use Rattle.stringpool.specs.Take.{takenAt, counting, takeAt, takeOutcome, firstFreeOrEqual}
+use Rattle.stringpool.specs.Take.{takenAt, counting, takeAt, takeOutcome, Chooser, firstFreeOrEqual, equalThenFree}
 use Rattle.stringpool.specs.Drop.{dropOutcome}
 use Rattle.stringpool.specs.Load.{loadOutcome}
 use Rattle.stringpool.specs.Pages.{newAnswer, setPageAnswer}
@@ -23,19 +23,23 @@ use Rattle.stringpool.specs.declared.pool.StringPool.{StringPool}
 abbrev pub short : ℕ → StringPool
 short n = record { «num_strings» = n; «long_string_refs» = false; codepage = 0 }
 
--- a drop of that number, and a take of that text, are refused so, and leave the rooms as they were
+-- by the old choice and by the default
+abbrev pub ByBoth : (Chooser → Type 0) → Type 0
+ByBoth P = P firstFreeOrEqual × P equalThenFree
+
+-- a drop of that number, and a take of that text by that choice, are refused so, and leave the rooms as they were
 abbrev pub DropRefused : StringPool → Rooms → ℤ → ℕ → Type 0
 DropRefused p w r n = dropOutcome p w r ≡ (refused n nowhere, w)
 
-abbrev pub TakeRefused : StringPool → Rooms → List ℕ → ℕ → Type 0
-TakeRefused p w t n = takeOutcome firstFreeOrEqual p w t ≡ (refused n nowhere, w)
+abbrev pub TakeRefused : Chooser → StringPool → Rooms → List ℕ → ℕ → Type 0
+TakeRefused choose p w t n = takeOutcome choose p w t ≡ (refused n nowhere, w)
 
 -- a drop leaves these rooms; a take answers that number, and leaves these and a pool of so many entries
 abbrev pub Drops : StringPool → Rooms → ℤ → Rooms → Type 0
 Drops p w r v = dropOutcome p w r ≡ (gives p, v)
 
-abbrev pub Takes : ℕ → Rooms → List ℕ → ℕ → ℕ → Rooms → Type 0
-Takes n w t r m v = takeOutcome firstFreeOrEqual (short n) w t ≡ (gives (pos r, short m), v)
+abbrev pub Takes : Chooser → ℕ → Rooms → List ℕ → ℕ → ℕ → Rooms → Type 0
+Takes choose n w t r m v = takeOutcome choose (short n) w t ≡ (gives (pos r, short m), v)
 
 -- ---- drop
 
@@ -67,23 +71,51 @@ abbrev pub freeFirst : Rooms
 freeFirst = rooms (3 ∷ 1 ∷ []) (0 ∷ 1 ∷ []) (88 ∷ 89 ∷ 90 ∷ 65 ∷ 7 ∷ [])
 
 abbrev pub FreeExactly : Type 0
-FreeExactly = Takes 2 freeFirst (1 ∷ 2 ∷ 3 ∷ 4 ∷ []) 1 2 (rooms (4 ∷ 1 ∷ []) (1 ∷ 1 ∷ []) (1 ∷ 2 ∷ 3 ∷ 4 ∷ 65 ∷ [])) × TakeRefused (short 2) freeFirst (1 ∷ 2 ∷ 3 ∷ 4 ∷ 5 ∷ []) 6
+FreeExactly = ByBoth (λ by. Takes by 2 freeFirst (1 ∷ 2 ∷ 3 ∷ 4 ∷ []) 1 2 (rooms (4 ∷ 1 ∷ []) (1 ∷ 1 ∷ []) (1 ∷ 2 ∷ 3 ∷ 4 ∷ 65 ∷ []))
+    × TakeRefused by (short 2) freeFirst (1 ∷ 2 ∷ 3 ∷ 4 ∷ 5 ∷ []) 6)
 
--- "the chosen entry stays the choice, even where a later one is equal": a free one, then "ABC" in a room of 3
+-- a free entry and "AB", which has the count c, in a text room of 2
+abbrev pub textFull : ℕ → Rooms
+textFull c = rooms (0 ∷ 2 ∷ []) (0 ∷ c ∷ []) (65 ∷ 66 ∷ [])
+
+-- "the chosen entry stays the choice, even where a later one is equal": by the old choice of "AB" there; and by both a free one, then "A" in a room of 1, to
+-- get "BC"
 abbrev pub ChoiceStays : Type 0
-ChoiceStays = TakeRefused (short 2) (rooms (0 ∷ 3 ∷ []) (0 ∷ 1 ∷ []) (65 ∷ 66 ∷ 67 ∷ [])) (65 ∷ 66 ∷ 67 ∷ []) 6
+ChoiceStays = TakeRefused firstFreeOrEqual (short 2) (textFull 1) (65 ∷ 66 ∷ []) 6
+    × ByBoth (λ by. TakeRefused by (short 2) (rooms (0 ∷ 1 ∷ []) (0 ∷ 1 ∷ []) (65 ∷ [])) (66 ∷ 67 ∷ []) 6)
+
+-- "look for an equal entry with a count from 1 to 65,534 first": a take of "" on document 01's pool k, "Name" twice, a free one and "" once, counts up the
+-- third, where the old choice fills the second
+abbrev pub kRooms : Rooms
+kRooms = rooms (4 ∷ 0 ∷ 0 ∷ []) (2 ∷ 0 ∷ 1 ∷ []) (78 ∷ 97 ∷ 109 ∷ 101 ∷ [])
+
+abbrev pub CountsUpThere : Type 0
+CountsUpThere = Takes equalThenFree 3 kRooms [] 3 3 (rooms (4 ∷ 0 ∷ 0 ∷ []) (2 ∷ 0 ∷ 2 ∷ []) (78 ∷ 97 ∷ 109 ∷ 101 ∷ []))
+    × Takes firstFreeOrEqual 3 kRooms [] 2 3 (rooms (4 ∷ 0 ∷ 0 ∷ []) (2 ∷ 1 ∷ 1 ∷ []) (78 ∷ 97 ∷ 109 ∷ 101 ∷ []))
+
+-- "under the default, 6, 11, 12 and 4 are not given while an equal entry can count up": "AB" in a text room of 2 counts up, to 65,535; then none can, and the
+-- free one is chosen, 6
+-- "A" 65,535 times and "A" again, in rooms that are used exactly: the second counts up to 65,535, and then an entry is wanted, 4
+abbrev pub entriesFull : ℕ → Rooms
+entriesFull c = rooms (1 ∷ 1 ∷ []) (65535 ∷ c ∷ []) (65 ∷ 65 ∷ [])
+
+abbrev pub NeedsNoRoom : Type 0
+NeedsNoRoom = Takes equalThenFree 2 (textFull 1) (65 ∷ 66 ∷ []) 2 2 (textFull 2)
+    × Takes equalThenFree 2 (textFull 65534) (65 ∷ 66 ∷ []) 2 2 (textFull 65535) × TakeRefused equalThenFree (short 2) (textFull 65535) (65 ∷ 66 ∷ []) 6
+    × Takes equalThenFree 2 (entriesFull 65534) (65 ∷ []) 2 2 (entriesFull 65535) × TakeRefused equalThenFree (short 2) (entriesFull 65535) (65 ∷ []) 4
 
 -- "the same bytes and a count below 65,535": 65,534 counts up, and beside 65,535 an entry is added; its 6 at the room of one byte
 abbrev pub CountFull : Type 0
-CountFull = Takes 1 (rooms (1 ∷ 9 ∷ []) (65534 ∷ 8 ∷ []) (65 ∷ 7 ∷ [])) (65 ∷ []) 1 1 (rooms (1 ∷ 9 ∷ []) (65535 ∷ 8 ∷ []) (65 ∷ 7 ∷ []))
-    × Takes 1 (rooms (1 ∷ 9 ∷ []) (65535 ∷ 8 ∷ []) (65 ∷ 7 ∷ [])) (65 ∷ []) 2 2 (rooms (1 ∷ 1 ∷ []) (65535 ∷ 1 ∷ []) (65 ∷ 65 ∷ []))
-    × TakeRefused (short 1) (rooms (1 ∷ 9 ∷ []) (65535 ∷ 8 ∷ []) (65 ∷ [])) (65 ∷ []) 6
+CountFull = ByBoth (λ by. Takes by 1 (rooms (1 ∷ 9 ∷ []) (65534 ∷ 8 ∷ []) (65 ∷ 7 ∷ [])) (65 ∷ []) 1 1 (rooms (1 ∷ 9 ∷ []) (65535 ∷ 8 ∷ []) (65 ∷ 7 ∷ []))
+    × Takes by 1 (rooms (1 ∷ 9 ∷ []) (65535 ∷ 8 ∷ []) (65 ∷ 7 ∷ [])) (65 ∷ []) 2 2 (rooms (1 ∷ 1 ∷ []) (65535 ∷ 1 ∷ []) (65 ∷ 65 ∷ []))
+    × TakeRefused by (short 1) (rooms (1 ∷ 9 ∷ []) (65535 ∷ 8 ∷ []) (65 ∷ [])) (65 ∷ []) 6)
 
 -- "4 more entries than the lent entry room holds", "the shorter of the lent lengths and counts": "A", and a second entry in rooms for two and one, one
 -- and two, two and two
 abbrev pub EntryRoom : Type 0
-EntryRoom = TakeRefused (short 1) (rooms (1 ∷ 9 ∷ []) (1 ∷ []) (65 ∷ 7 ∷ [])) (66 ∷ []) 4 × TakeRefused (short 1) (rooms (1 ∷ []) (1 ∷ 8 ∷ []) (65 ∷ 7 ∷ [])) (66 ∷ []) 4
-    × Takes 1 (rooms (1 ∷ 9 ∷ []) (1 ∷ 8 ∷ []) (65 ∷ 7 ∷ [])) (66 ∷ []) 2 2 (rooms (1 ∷ 1 ∷ []) (1 ∷ 1 ∷ []) (65 ∷ 66 ∷ []))
+EntryRoom = ByBoth (λ by. TakeRefused by (short 1) (rooms (1 ∷ 9 ∷ []) (1 ∷ []) (65 ∷ 7 ∷ [])) (66 ∷ []) 4
+    × TakeRefused by (short 1) (rooms (1 ∷ []) (1 ∷ 8 ∷ []) (65 ∷ 7 ∷ [])) (66 ∷ []) 4
+    × Takes by 1 (rooms (1 ∷ 9 ∷ []) (1 ∷ 8 ∷ []) (65 ∷ 7 ∷ [])) (66 ∷ []) 2 2 (rooms (1 ∷ 1 ∷ []) (1 ∷ 1 ∷ []) (65 ∷ 66 ∷ [])))
 
 -- "Take: 11, 12, 4, 6": where a new entry is wanted, 11 and 12 whatever the rooms, so also without room for it or its text
 abbrev pub FullFirst : Type 0
@@ -112,9 +144,9 @@ UnsoundThen = (setPageAnswer (short 2) unsound 4294967295 ≡ refused 24 nowhere
     × (writeOutcome (short 2) unsound (poolBytes (short 2) unsound) (7 ∷ []) ≡ (refused 24 nowhere, 7 ∷ []))
     × (writeOutcome (short 2) unsound (dataBytes (short 2) unsound) [] ≡ (refused 24 nowhere, []))
 
--- before 4 and 6 of a take
+-- before 4 and 6 of a take, by whatever choice
 abbrev pub UnsoundTake : Type 0
-UnsoundTake = TakeRefused (short 2) unsound (66 ∷ []) 24
+UnsoundTake = (choose : Chooser) → TakeRefused choose (short 2) unsound (66 ∷ []) 24
 
 -- ---- new, page, load, write
 
@@ -165,8 +197,8 @@ Showing = (showAnswer (short 2) two (pos 0) ≡ refused 8 nowhere) × (showAnswe
 
 -- "texts handed in, at most 268,435,455 bytes": one of that size comes to 4, one byte more is 22, in an unsound state too
 abbrev pub TakeSize : Type 0
-TakeSize = ((t : List ℕ) → length t ≡ 268435455 → TakeRefused (short 0) (rooms [] [] []) t 4)
-    × ((t : List ℕ) → length t ≡ 268435456 → TakeRefused (short 0) (rooms [] [] []) t 22) × ((t : List ℕ) → length t ≡ 268435456 → TakeRefused (short 2) unsound t 22)
+TakeSize = ByBoth (λ by. (t : List ℕ) → length t ≡ 268435455 → TakeRefused by (short 0) (rooms [] [] []) t 4)
+    × ((choose : Chooser) (t : List ℕ) → length t ≡ 268435456 → TakeRefused choose (short 0) (rooms [] [] []) t 22 × TakeRefused choose (short 2) unsound t 22)
 
 -- "22 first": of a text room above the size, whatever else is wrong
 abbrev pub RoomSize : Type 0
@@ -177,4 +209,4 @@ RoomSize = (p : StringPool) (w : Rooms) → maxBytes < length (w .text)
 
 -- "Take: 11, 12, 4, 6": no place and no room for a text of one byte: 4
 abbrev pub RoomBefore6 : Type 0
-RoomBefore6 = TakeRefused (short 1) (rooms (1 ∷ []) (1 ∷ []) (65 ∷ [])) (66 ∷ []) 4
+RoomBefore6 = ByBoth (λ by. TakeRefused by (short 1) (rooms (1 ∷ []) (1 ∷ []) (65 ∷ [])) (66 ∷ []) 4)

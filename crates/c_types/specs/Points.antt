@@ -8,6 +8,7 @@ use lib.ListN.{length}
 use Rattle.common.specs.Answers.{Answer, gives, refused, nowhere, column, refusalOf}
 use Rattle.stringpool.specs.declared.pool.StringPool.{StringPool}
 use Rattle.stringpool.specs.Pool.{Rooms, rooms}
+use Rattle.stringpool.specs.Take.{Chooser}
 use Rattle.pool_values.specs.Points.{OnState}
 use Rattle.column.specs.declared.column.Column.{Column}
 use Rattle.widths.specs.Judged.{soundColumns}
@@ -16,23 +17,23 @@ use Rattle.c_types.specs.Values.{createBy, removeBy, shownBy, textBy, ch
 use Rattle.c_types.specs.declared.answers.ColumnParts.{ColumnParts}
 use Rattle.c_types.specs.declared.answers.TableParts.{TableParts}
 
--- ---- a value with a pool
+-- ---- a value with a pool, whatever the choice of a take
 
 -- "16: kind of cell .. is unknown": 4 and 255 are, 3 is not
 abbrev pub UnknownKind : Type 0
-UnknownKind =
-    OnState true (λ p w. createBy 3 (pos 0) [] p w ≡ gives (((3, pos 0), p), w)) × OnState true (λ p w. createBy 4 (pos 0) [] p w ≡ refused 16 nowhere)
-    × OnState true (λ p w. createBy 255 (pos 0) [] p w ≡ refused 16 nowhere)
+UnknownKind = (choose : Chooser) →
+    OnState true (λ p w. createBy choose 3 (pos 0) [] p w ≡ gives (((3, pos 0), p), w)) × OnState true (λ p w. createBy choose 4 (pos 0) [] p w ≡ refused 16 nowhere)
+    × OnState true (λ p w. createBy choose 255 (pos 0) [] p w ≡ refused 16 nowhere)
     × OnState true (λ p w. removeBy 3 (pos 0) p w ≡ gives (p, w)) × OnState true (λ p w. removeBy 4 (pos 0) p w ≡ refused 16 nowhere)
     × OnState true (λ p w. shownBy 3 (pos 0) p w ≡ gives (3, pos 0)) × OnState true (λ p w. shownBy 4 (pos 0) p w ≡ refused 16 nowhere)
     × OnState true (λ p w. textBy 3 (pos 0) p w ≡ gives []) × OnState true (λ p w. textBy 4 (pos 0) p w ≡ refused 16 nowhere)
 
 -- "22 first, then 24": a value of an unknown kind is 16 after both
 abbrev pub KindLast : Type 0
-KindLast =
-    OnState false (λ p w. createBy 4 (pos 0) [] p w ≡ refused 24 nowhere) × OnState false (λ p w. removeBy 4 (pos 0) p w ≡ refused 24 nowhere)
+KindLast = (choose : Chooser) →
+    OnState false (λ p w. createBy choose 4 (pos 0) [] p w ≡ refused 24 nowhere) × OnState false (λ p w. removeBy 4 (pos 0) p w ≡ refused 24 nowhere)
     × OnState false (λ p w. shownBy 4 (pos 0) p w ≡ refused 24 nowhere) × OnState false (λ p w. textBy 4 (pos 0) p w ≡ refused 24 nowhere)
-    × ((p : StringPool) (w : Rooms) (new : List ℕ) → length new ≡ 268435456 → createBy 4 (pos 0) new p w ≡ refused 22 nowhere)
+    × ((p : StringPool) (w : Rooms) (new : List ℕ) → length new ≡ 268435456 → createBy choose 4 (pos 0) new p w ≡ refused 22 nowhere)
     × ((p : StringPool) (lengths counts text : List ℕ) → length text ≡ 268435456 → removeBy 4 (pos 0) p (rooms lengths counts text) ≡ refused 22 nowhere)
 
 -- ---- a column, and a value beside it

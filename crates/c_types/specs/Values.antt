@@ -7,6 +7,7 @@ use Rattle.common.specs.Choice.{if_then_else_, _=?_}
 use Rattle.common.specs.Answers.{Answer, nowhere, column}
 use Rattle.stringpool.specs.declared.pool.StringPool.{StringPool}
 use Rattle.stringpool.specs.Pool.{Rooms}
+use Rattle.stringpool.specs.Take.{Chooser}
 use Rattle.cell.specs.declared.value.ValueRef.{ValueRef}
 use Rattle.cell.specs.declared.value.ValueRef.the-variants as values
 use Rattle.cell.specs.Kinds.{refKind, refNumber, valueKind, valueNumber}
@@ -38,8 +39,8 @@ plainIn kind n =
     else plain.Binary
 
 -- a value by its kind and number, as it is handed over, with a pool: 22, 24, then 16 with no place, since the value stands in no cell
-abbrev pub createBy : ℕ → ℤ → List ℕ → StringPool → Rooms → Answer (((ℕ × ℤ) × StringPool) × Rooms)
-createBy kind n new p w = onKind nowhere kind (createAnswer (valueKind (plainIn kind n)) (valueNumber (plainIn kind n)) new p w)
+abbrev pub createBy : Chooser → ℕ → ℤ → List ℕ → StringPool → Rooms → Answer (((ℕ × ℤ) × StringPool) × Rooms)
+createBy choose kind n new p w = onKind nowhere kind (createAnswer choose (valueKind (plainIn kind n)) (valueNumber (plainIn kind n)) new p w)
 
 abbrev pub removeBy : ℕ → ℤ → StringPool → Rooms → Answer (StringPool × Rooms)
 removeBy kind n p w = onKind nowhere kind (removeAnswer (refKind (valueIn kind n)) (refNumber (valueIn kind n)) p w)

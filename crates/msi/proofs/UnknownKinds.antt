@@ -14,16 +14,19 @@ use Rattle.common.specs.Refusals.{refusedBy}
 use Rattle.common.specs.declared.refusal.Refusal.{Refusal}
 use Rattle.common.proofs.Outcomes.{refused-gives}
 use Rattle.stringpool.specs.Pool.{Rooms, sound}
+use Rattle.stringpool.specs.Take.{Chooser}
 use Rattle.stringpool.specs.declared.pool.StringPool.{StringPool}
 use Rattle.cell.specs.Kinds.{refKind, refNumber, valueKind, valueNumber}
 use Rattle.cell.specs.declared.value.ValueRef.the-variants as values
+use Rattle.cell.specs.declared.value.Value.{Value}
 use Rattle.cell.specs.declared.value.Value.the-variants as plain
-use Rattle.pool_values.specs.Pooled.{createAnswer, removeAnswer}
+use Rattle.pool_values.specs.Pooled.{createAnswer, createOutcome, removeAnswer}
 use Rattle.c_types.specs.Answers.{countIn, answeredAs}
 use Rattle.cell.specs.Handed.{unknown}
 use Rattle.c_types.specs.Unknown.{onKind}
-use Rattle.c_types.specs.Values.{valueIn, plainIn}
+use Rattle.c_types.specs.Values.{valueIn, plainIn, createBy, createdIn}
 use Rattle.c_types.specs.declared.answers.Count.{Count}
+use Rattle.c_types.specs.declared.answers.CreateAnswer.{CreateAnswer}
 use Rattle.msi.proofs.Gets.{written}
 use Rattle.msi.proofs.Handed.{hands-on}
 
@@ -62,9 +65,15 @@ leaves w x false true d = refl
 leaves w x false false true = refl
 leaves w x false false false = refl
 
-pub create-kept : (kind : ℕ) (n : ℤ) (new : List ℕ) (p : StringPool) (w : Rooms) → unknown kind ≡ true
-    → outcome w (createAnswer (valueKind (plainIn kind n)) (valueNumber (plainIn kind n)) new p w) .1 ≡ w
-create-kept kind n new p w e = rw (plain-unknown kind n e) (leaves w _ (maxBytes <? length new) (maxBytes <? length (w .text)) (not (sound p w)))
+create-kept : (choose : Chooser) (kind : ℕ) (n : ℤ) (new : List ℕ) (p : StringPool) (w : Rooms) → unknown kind ≡ true
+    → outcome w (createAnswer choose (valueKind (plainIn kind n)) (valueNumber (plainIn kind n)) new p w) .1 ≡ w
+create-kept choose kind n new p w e = rw (plain-unknown kind n e) (leaves w _ (maxBytes <? length new) (maxBytes <? length (w .text)) (not (sound p w)))
+
+pub creates : (choose : Chooser) (kind : ℕ) (n : ℤ) (new : List ℕ) (p : StringPool) (w : Rooms) {r : CreateAnswer} {x : Answer ((ℕ × ℤ) × StringPool)} {after : Rooms} {v : Value}
+    → v ≡ plainIn kind n → r ≡ createdIn (onKind nowhere kind x) → (x, after) ≡ createOutcome choose (valueKind v) (valueNumber v) new p w
+    → (r, after) ≡ answeredAs createdIn (outcome w (createBy choose kind n new p w))
+creates choose kind n new p w same made called =
+    hands-kind createdIn kind w (λ (v : Value). createAnswer choose (valueKind v) (valueNumber v) new p w) same (create-kept choose kind n new p w) made called
 
 pub remove-kept : (kind : ℕ) (n : ℤ) (p : StringPool) (w : Rooms) → unknown kind ≡ true
     → outcome w (removeAnswer (refKind (valueIn kind n)) (refNumber (valueIn kind n)) p w) .1 ≡ w

@@ -23,7 +23,7 @@ ghost use Rattle.common.specs.Refs.{reference};
 ghost use Rattle.stringpool.specs.Load.{loadOutcome};
 ghost use Rattle.stringpool.specs.Pages.{newAnswer, setPageAnswer};
 ghost use Rattle.stringpool.specs.Show.{showAnswer, refcountAnswer};
-ghost use Rattle.stringpool.specs.Take.{takeOutcome, firstFreeOrEqual};
+ghost use Rattle.stringpool.specs.Take.{takeOutcome, equalThenFree, firstFreeOrEqual};
 ghost use Rattle.stringpool.specs.Drop.{dropOutcome};
 ghost use Rattle.stringpool.specs.Write.{writeOutcome, poolBytes, dataBytes};
 ghost use Rattle.c_types.specs.Answers.{refusalIn, countIn, answeredAs};
@@ -131,6 +131,7 @@ pub extern "C" fn strandroost_get(
     }
 }
 
+// The default: an equal entry that can count up, else the first free one, else a new one.
 #[no_mangle]
 pub extern "C" fn strandroost_incref(
     pool: StringPool,
@@ -140,9 +141,24 @@ pub extern "C" fn strandroost_incref(
     new: &[u8],
 ) -> TakeAnswer
     ensures { λ r. ⌜ (r, rooms (now (lengths .exit)) (now (counts .exit)) (now (text .exit)))
-        ≡ answeredAs takenIn (takeOutcome firstFreeOrEqual pool (rooms (now (lengths .entry)) (now (counts .entry)) (now (text .entry))) (now (new .entry))) ⌝ }
+        ≡ answeredAs takenIn (takeOutcome equalThenFree pool (rooms (now (lengths .entry)) (now (counts .entry)) (now (text .entry))) (now (new .entry))) ⌝ }
 {
     from_taken(pool.incref(lengths, counts, text, new))
+}
+
+// Document 01's choice, the crate's: the first entry that is free or equal.
+#[no_mangle]
+pub extern "C" fn strandroost_incref_first(
+    pool: StringPool,
+    lengths: &mut [u32],
+    counts: &mut [u16],
+    text: &mut [u8],
+    new: &[u8],
+) -> TakeAnswer
+    ensures { λ r. ⌜ (r, rooms (now (lengths .exit)) (now (counts .exit)) (now (text .exit)))
+        ≡ answeredAs takenIn (takeOutcome firstFreeOrEqual pool (rooms (now (lengths .entry)) (now (counts .entry)) (now (text .entry))) (now (new .entry))) ⌝ }
+{
+    from_taken(pool.incref_first(lengths, counts, text, new))
 }
 
 #[no_mangle]

@@ -17,13 +17,14 @@ use stringpool::StringPool;
 ghost use mathlib.Core.Path.{_≡_};
 ghost use Rattle.common.specs.Answers.{outcome};
 ghost use Rattle.stringpool.specs.Pool.{rooms};
+ghost use Rattle.stringpool.specs.Take.{equalThenFree, firstFreeOrEqual};
 ghost use Rattle.c_types.specs.Answers.{countIn, answeredAs};
 ghost use Rattle.c_types.specs.Pools.{poolIn};
 ghost use Rattle.c_types.specs.Tables.{cellIn};
 ghost use Rattle.c_types.specs.Values.{createBy, removeBy, shownBy, textBy, createdIn};
 ghost use Rattle.msi.specs.Texts.{copiedOutcome};
 
-// A text is taken into the pool; any other value leaves it as it is.
+// A text is taken into the pool, by the default choice; any other value leaves it as it is.
 #[no_mangle]
 pub extern "C" fn strandroost_create(
     kind: u8,
@@ -36,10 +37,30 @@ pub extern "C" fn strandroost_create(
 ) -> CreateAnswer
     ensures { λ r. ⌜ (r, rooms (now (lengths .exit)) (now (counts .exit)) (now (text .exit)))
         ≡ answeredAs createdIn (outcome (rooms (now (lengths .entry)) (now (counts .entry)) (now (text .entry)))
-        (createBy kind number (now (new .entry)) pool (rooms (now (lengths .entry)) (now (counts .entry)) (now (text .entry))))) ⌝ }
+        (createBy equalThenFree kind number (now (new .entry)) pool (rooms (now (lengths .entry)) (now (counts .entry)) (now (text .entry))))) ⌝ }
 {
     let value = plain_in(kind, number);
     let answer = pool_values::create(value, new, pool, lengths, counts, text);
+    from_created(answer, kind)
+}
+
+// The same by document 01's choice.
+#[no_mangle]
+pub extern "C" fn strandroost_create_first(
+    kind: u8,
+    number: i32,
+    new: &[u8],
+    pool: StringPool,
+    lengths: &mut [u32],
+    counts: &mut [u16],
+    text: &mut [u8],
+) -> CreateAnswer
+    ensures { λ r. ⌜ (r, rooms (now (lengths .exit)) (now (counts .exit)) (now (text .exit)))
+        ≡ answeredAs createdIn (outcome (rooms (now (lengths .entry)) (now (counts .entry)) (now (text .entry)))
+        (createBy firstFreeOrEqual kind number (now (new .entry)) pool (rooms (now (lengths .entry)) (now (counts .entry)) (now (text .entry))))) ⌝ }
+{
+    let value = plain_in(kind, number);
+    let answer = pool_values::create_first(value, new, pool, lengths, counts, text);
     from_created(answer, kind)
 }
 

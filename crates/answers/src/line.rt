@@ -4,6 +4,7 @@ use commands::shown;
 use commands::words::WORD;
 use commands::words::byte;
 use commands::words::end_of;
+use commands::words::is;
 use commands::words::next;
 use pool_commands::COUNT;
 use pool_commands::DROP;
@@ -13,6 +14,7 @@ use pool_commands::PAGE;
 use pool_commands::STATE;
 use pool_commands::SUM;
 use pool_commands::TAKE;
+use pool_commands::TAKE_DEFAULT;
 use pool_commands::WDATA;
 use pool_commands::WPOOL;
 use room_commands::Desk;
@@ -53,19 +55,31 @@ const COL: u64 = 0x636f6c;
 
 const CHECK: u64 = 0x636865636b;
 
+// 0 is as 255, so that a byte more is another number.
 fn wide(b: u8) -> u64
     ensures { λ r. ⌜ r < 256 ⌝ }
 {
+    if b == 0 {
+        return 255;
+    }
     b as u64
 }
 
-// The word at `at` as such a number; of a word of more than eight bytes, which is no command's, the last eight.
-fn word(s: &[u8], at: usize) -> u64 {
+// The bytes of the word at `at` as such a number; of more than seven, which have the number of no command, the last seven.
+fn number(s: &[u8], at: usize) -> u64 {
     let mut sum: u64 = 0;
     for i in at..end_of(s, at, WORD) {
-        sum = sum % 72_057_594_037_927_936 * 256 + wide(byte(s, i));
+        sum = sum % 281_474_976_710_656 * 256 + wide(byte(s, i));
     }
     sum
+}
+
+// The word at `at` as the number of its command.
+fn word(s: &[u8], at: usize) -> u64 {
+    if is(s, at, b"take-default") {
+        return TAKE_DEFAULT;
+    }
+    number(s, at)
 }
 
 // The commands that no pool is lent to.
@@ -99,7 +113,15 @@ fn lent(
     let word = word(s, line);
     let at = next(s, line);
     match word {
-        LOAD | TAKE | DROP => pool_commands::change(word, s, at, desk, lengths, counts, text),
+        LOAD | TAKE | TAKE_DEFAULT | DROP => pool_commands::change(
+            word,
+            s,
+            at,
+            desk,
+            lengths,
+            counts,
+            text,
+        ),
         NEW | PAGE | COUNT | STATE | SUM | WPOOL | WDATA => {
             pool_commands::read(word, s, at, desk, lengths, counts, text, out)
         }

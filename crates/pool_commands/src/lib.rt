@@ -17,6 +17,9 @@ pub const PAGE: u64 = 0x70616765;
 
 pub const TAKE: u64 = 0x74616b65;
 
+// A word that is too long for that: the number of `take`, and a bit above the bytes of every other.
+pub const TAKE_DEFAULT: u64 = 0x0100_0000_7461_6b65;
+
 pub const DROP: u64 = 0x64726f70;
 
 pub const COUNT: u64 = 0x636f756e74;
@@ -41,7 +44,7 @@ pub fn change(
 ) -> Desk {
     match word {
         LOAD => pools::load(s, at, desk, lengths, counts, text),
-        TAKE => pools::take(s, at, desk, lengths, counts, text),
+        TAKE | TAKE_DEFAULT => pools::take(word == TAKE, s, at, desk, lengths, counts, text),
         _ => pools::drop(s, at, desk, lengths, counts, text),
     }
 }

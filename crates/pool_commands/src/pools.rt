@@ -64,7 +64,24 @@ pub(crate) fn load(
     }
 }
 
+// By the first entry that is free or equal, as the crate chooses, or by the default.
+fn taken(
+    first: bool,
+    pool: StringPool,
+    lengths: &mut [u32],
+    counts: &mut [u16],
+    text: &mut [u8],
+    new: &[u8],
+) -> Taken {
+    if first {
+        return pool.incref_first(lengths, counts, text, new);
+    }
+    pool.incref(lengths, counts, text, new)
+}
+
+// `take`, or `take-default`
 pub(crate) fn take(
+    first: bool,
     s: &[u8],
     at: usize,
     desk: Desk,
@@ -75,7 +92,7 @@ pub(crate) fn take(
     let mut new = text_room();
     let n = bytes_at(s, at, &mut new);
     let pool = desk.pool;
-    let answer = pool.incref(lengths, counts, text, front(&new, n));
+    let answer = taken(first, pool, lengths, counts, text, front(&new, n));
     match answer {
         Taken::Ref(taken, after) => {
             shown::say(b"ok ");

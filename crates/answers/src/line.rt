@@ -17,8 +17,10 @@ use pool_commands::TAKE;
 use pool_commands::TAKE_DEFAULT;
 use pool_commands::WDATA;
 use pool_commands::WPOOL;
+use pool_commands::change;
 use room_commands::Desk;
 use value_commands::CREATE;
+use value_commands::CREATE_DEFAULT;
 use value_commands::REMOVE;
 use value_commands::SHOW;
 use value_commands::VALUE;
@@ -55,17 +57,13 @@ const COL: u64 = 0x636f6c;
 
 const CHECK: u64 = 0x636865636b;
 
-// 0 is as 255, so that a byte more is another number.
 fn wide(b: u8) -> u64
     ensures { λ r. ⌜ r < 256 ⌝ }
 {
-    if b == 0 {
-        return 255;
-    }
     b as u64
 }
 
-// The bytes of the word at `at` as such a number; of more than seven, which have the number of no command, the last seven.
+// The bytes of the word at `at` as such a number; of more than seven, which are no command's here, the last seven.
 fn number(s: &[u8], at: usize) -> u64 {
     let mut sum: u64 = 0;
     for i in at..end_of(s, at, WORD) {
@@ -78,6 +76,9 @@ fn number(s: &[u8], at: usize) -> u64 {
 fn word(s: &[u8], at: usize) -> u64 {
     if is(s, at, b"take-default") {
         return TAKE_DEFAULT;
+    }
+    if is(s, at, b"create-default") {
+        return CREATE_DEFAULT;
     }
     number(s, at)
 }
@@ -113,19 +114,11 @@ fn lent(
     let word = word(s, line);
     let at = next(s, line);
     match word {
-        LOAD | TAKE | TAKE_DEFAULT | DROP => pool_commands::change(
-            word,
-            s,
-            at,
-            desk,
-            lengths,
-            counts,
-            text,
-        ),
+        LOAD | TAKE | TAKE_DEFAULT | DROP => change(word, s, at, desk, lengths, counts, text),
         NEW | PAGE | COUNT | STATE | SUM | WPOOL | WDATA => {
             pool_commands::read(word, s, at, desk, lengths, counts, text, out)
         }
-        CREATE | REMOVE | VALUE => {
+        CREATE | CREATE_DEFAULT | REMOVE | VALUE => {
             value_commands::answer(word, s, at, desk, lengths, counts, text, out)
         }
         SHOW => value_commands::show(s, at, desk, lengths, counts, text, out),

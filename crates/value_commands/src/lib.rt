@@ -22,6 +22,9 @@ use stringpool::StringPool;
 // Commands, each the bytes of its word as one number, the first byte the highest.
 pub const CREATE: u64 = 0x637265617465;
 
+// A word that is too long for that: the number of `create`, and a bit above the bytes of every other.
+pub const CREATE_DEFAULT: u64 = 0x0100_6372_6561_7465;
+
 pub const REMOVE: u64 = 0x72656d6f7665;
 
 pub const VALUE: u64 = 0x76616c7565;
@@ -59,7 +62,24 @@ fn reference_of(cell: Cell) -> ValueRef {
     }
 }
 
+// A text is taken by the first entry that is free or equal, as the crate chooses, or by the default.
+fn created(
+    first: bool,
+    value: Value,
+    new: &[u8],
+    pool: StringPool,
+    lengths: &mut [u32],
+    counts: &mut [u16],
+    text: &mut [u8],
+) -> Created {
+    if first {
+        return pool_values::create_first(value, new, pool, lengths, counts, text);
+    }
+    pool_values::create(value, new, pool, lengths, counts, text)
+}
+
 fn create(
+    first: bool,
     cell: Cell,
     s: &[u8],
     at: usize,
@@ -71,7 +91,8 @@ fn create(
     let pool = desk.pool;
     let mut new = text_room();
     let n = bytes_at(s, after(s, at), &mut new);
-    let answer = pool_values::create(value_of(cell), front(&new, n), pool, lengths, counts, text);
+    let new = front(&new, n);
+    let answer = created(first, value_of(cell), new, pool, lengths, counts, text);
     match answer {
         Created::Value(made, after) => {
             shown::say(b"ok ");
@@ -194,7 +215,7 @@ fn value(
     }
 }
 
-// `create`, `remove`, `value`
+// `create` and `create-default`, `remove`, `value`
 pub fn answer(
     word: u64,
     s: &[u8],
@@ -211,7 +232,7 @@ pub fn answer(
         return desk;
     }
     match word {
-        CREATE => create(cell, s, at, desk, lengths, counts, text),
+        CREATE | CREATE_DEFAULT => create(word == CREATE, cell, s, at, desk, lengths, counts, text),
         REMOVE => remove(cell, desk, lengths, counts, text),
         _ => value(cell, desk, lengths, counts, text, out),
     }

@@ -194,12 +194,23 @@ struct strandroost_count strandroost_get(struct strandroost_pool pool, const uin
                                          const uint16_t *counts, size_t counts_len, const uint8_t *text, size_t text_len,
                                          int32_t number, uint8_t *out, size_t places);
 
-/* Takes a text: its reference, and the pool afterwards. One more entry and taken_len more bytes of text suffice.
+/* Takes a text: its reference, and the pool afterwards. The first entry that has this text and a count from 1 to 65,534 counts up,
+ * wherever it stands; where there is none, the text goes into the first free entry, and where there is none either, into a new
+ * one. Where a free entry stands before the one that counts up, document 01's choice has another number, and is asked for by its
+ * name, strandroost_incref_first. One more entry and taken_len more bytes of text suffice.
  * 22: the text taken, too, over 268,435,455 bytes. 24. Where a new entry is wanted, 11: references are short, with 65,535 or
- * more entries; 12: there are 16,777,215; 4: the entry room is full. 6: the text room is too small. */
+ * more entries; 12: there are 16,777,215; 4: the entry room is full. 6: the text room is too small. None of these four where an
+ * entry counts up. */
 struct strandroost_take_answer strandroost_incref(struct strandroost_pool pool, uint32_t *lengths, size_t lengths_len,
                                                   uint16_t *counts, size_t counts_len, uint8_t *text, size_t text_len,
                                                   const uint8_t *taken, size_t taken_len);
+
+/* Takes a text by document 01's choice, which is the crate's: the first entry that is free, or has this text and a count below
+ * 65,535, so that a text may stand twice. For a caller that replays recorded takes, such as a delta builder: it gets the numbers
+ * that were recorded. Refusals as strandroost_incref, by the entry chosen. */
+struct strandroost_take_answer strandroost_incref_first(struct strandroost_pool pool, uint32_t *lengths, size_t lengths_len,
+                                                        uint16_t *counts, size_t counts_len, uint8_t *text, size_t text_len,
+                                                        const uint8_t *taken, size_t taken_len);
 
 /* Drops a reference: the pool afterwards. At a count of 0 the text goes, and the bytes given up become 0.
  * 22, 24, 8. 9: past the last entry. 10: its count is 0. */
@@ -220,12 +231,18 @@ struct strandroost_count strandroost_write_data(struct strandroost_pool pool, co
 /* ---- Values and the pool. A value is handed over by kind and number, which counts for an Int and for a reference. An unknown
  * kind is 16, with no place. */
 
-/* A value made: a text (kind 2), which is `taken`, is taken into the pool, and its number is then the reference; any other
- * leaves the pool as it is.
- * 22: `taken`, whatever the kind, or the text room over 268,435,455 bytes. 24, 16. For a text 11, 12, 4, 6, as a take. */
+/* A value made: a text (kind 2), which is `taken`, is taken into the pool as by strandroost_incref, and its number is then the
+ * reference; any other leaves the pool as it is.
+ * 22: `taken`, whatever the kind, or the text room over 268,435,455 bytes. 24, 16. For a text 11, 12, 4, 6, as that take. */
 struct strandroost_create_answer strandroost_create(uint8_t kind, int32_t number, const uint8_t *taken, size_t taken_len,
                                                     struct strandroost_pool pool, uint32_t *lengths, size_t lengths_len,
                                                     uint16_t *counts, size_t counts_len, uint8_t *text, size_t text_len);
+
+/* A value made, a text by document 01's choice, as by strandroost_incref_first: for a caller that replays recorded takes. Refusals
+ * as strandroost_create, by the entry chosen. */
+struct strandroost_create_answer strandroost_create_first(uint8_t kind, int32_t number, const uint8_t *taken, size_t taken_len,
+                                                          struct strandroost_pool pool, uint32_t *lengths, size_t lengths_len,
+                                                          uint16_t *counts, size_t counts_len, uint8_t *text, size_t text_len);
 
 /* A value removed: a reference (kind 2) is dropped; any other leaves the pool as it is. 22, 24, 16. For a reference 8, 9, 10. */
 struct strandroost_pool_answer strandroost_remove(uint8_t kind, int32_t number, struct strandroost_pool pool, uint32_t *lengths,

@@ -78,20 +78,22 @@ static void names(void)
     expect("\"A/\" is not", !strandroost_is_valid(slash, 2, true).value);
 }
 
+/* Pool k: "Name" twice, a free entry, and "" once. */
+static const uint8_t pool_k[] = {0xe4, 4, 0, 0, 4, 0, 2, 0, 0, 0, 0, 0, 0, 0, 1, 0, 0, 0, 0, 0};
+
 static void pool(void)
 {
-    static const uint8_t stream[] = {0xe4, 4, 0, 0, 4, 0, 2, 0, 0, 0, 0, 0, 0, 0, 1, 0, 0, 0, 0, 0};
     uint32_t lengths[4] = {7, 7, 7, 7};
     uint16_t counts[5] = {8, 8, 8, 8, 8};
     uint8_t text[6] = DOTS, out[32];
-    struct strandroost_pool_answer loaded = strandroost_load(stream, sizeof stream, BYTES("Name"), ROOMS);
+    struct strandroost_pool_answer loaded = strandroost_load(pool_k, sizeof pool_k, BYTES("Name"), ROOMS);
     expect("case k: code page 1252, three entries", loaded.pool.codepage == 1252 && loaded.pool.num_strings == 3);
     expect("the rooms past the pool are untouched", lengths[3] == 7 && counts[3] == 8 && same(text, "Name.."));
     struct strandroost_count shown = strandroost_get(loaded.pool, ROOMS, 1, out, sizeof out);
     expect("number 1 shows \"Name\"", shown.value == 4 && same(out, "Name"));
     expect("it counts 2", strandroost_refcount(loaded.pool, ROOMS, 1).value == 2);
-    struct strandroost_take_answer taken = strandroost_incref(loaded.pool, ROOMS, BYTES(""));
-    expect("case l: a take of \"\" answers 2", taken.reference == 2 && counts[1] == 1);
+    struct strandroost_take_answer taken = strandroost_incref_first(loaded.pool, ROOMS, BYTES(""));
+    expect("case l: a take of \"\" by the old choice answers 2", taken.reference == 2 && counts[1] == 1);
     expect("a drop past the end: 9", strandroost_decref(taken.pool, ROOMS, 4).refused.number == 9);
     expect("number 0: 8", strandroost_string_ref(0).refused.number == 8);
     expect("a code page of 32 bits: 21", strandroost_new(0x80000000u).refused.number == 21);
@@ -100,6 +102,20 @@ static void pool(void)
     expect("the code page is set to 1250", strandroost_set_codepage(taken.pool, ROOMS, 1250).pool.codepage == 1250);
     expect("20 + 4 bytes are written", strandroost_write_pool(taken.pool, ROOMS, out, sizeof out).value == 24);
     expect("4 bytes of texts", strandroost_write_data(taken.pool, ROOMS, out, sizeof out).value == 4);
+}
+
+/* What is there is preferred; by document 01's choice, the free entry before it. */
+static void choices(void)
+{
+    uint32_t lengths[3];
+    uint16_t counts[3];
+    uint8_t text[4];
+    struct strandroost_pool pool = strandroost_load(pool_k, sizeof pool_k, BYTES("Name"), ROOMS).pool;
+    expect("a take of \"\" answers 3", strandroost_incref(pool, ROOMS, BYTES("")).reference == 3 && counts[1] == 0 && counts[2] == 2);
+    struct strandroost_create_answer made = strandroost_create(2, 0, BYTES(""), pool, ROOMS);
+    expect("a value made of it is 3", made.kind == 2 && made.number == 3 && counts[1] == 0 && counts[2] == 3);
+    made = strandroost_create_first(2, 0, BYTES(""), pool, ROOMS);
+    expect("and 2 by the old choice", made.kind == 2 && made.number == 2 && counts[1] == 1 && counts[2] == 3);
 }
 
 static void values(void)
@@ -298,6 +314,7 @@ int main(void)
     version();
     names();
     pool();
+    choices();
     values();
     unknown_kinds();
     columns();

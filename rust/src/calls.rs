@@ -151,6 +151,13 @@ mod c {
     laid_out!(TableAnswer, "strandroost_table_answer", 1320, refused 0, table 24);
     laid_out!(StepAnswer, "strandroost_step_answer", 40, refused 0, at 24, found 32, kind 33, number 36);
 
+    /// A take, by either choice.
+    pub type Take = unsafe extern "C" fn(Pool, *mut u32, usize, *mut u16, usize, *mut u8, usize, *const u8, usize) -> TakeAnswer;
+
+    /// A create, by either choice.
+    pub type Create =
+        unsafe extern "C" fn(u8, i32, *const u8, usize, Pool, *mut u32, usize, *mut u16, usize, *mut u8, usize) -> CreateAnswer;
+
     #[link(name = "msi", kind = "static")]
     extern "C" {
         pub fn strandroost_encode(name: *const u16, units: usize, is_table: bool, out: *mut u16, places: usize) -> Count;
@@ -182,6 +189,10 @@ mod c {
             pool: Pool, lengths: *mut u32, lengths_len: usize, counts: *mut u16, counts_len: usize, text: *mut u8,
             text_len: usize, new: *const u8, new_len: usize,
         ) -> TakeAnswer;
+        pub fn strandroost_incref_first(
+            pool: Pool, lengths: *mut u32, lengths_len: usize, counts: *mut u16, counts_len: usize, text: *mut u8,
+            text_len: usize, new: *const u8, new_len: usize,
+        ) -> TakeAnswer;
         pub fn strandroost_decref(
             pool: Pool, lengths: *mut u32, lengths_len: usize, counts: *mut u16, counts_len: usize, text: *mut u8,
             text_len: usize, number: i32,
@@ -195,6 +206,10 @@ mod c {
             text_len: usize, out: *mut u8, places: usize,
         ) -> Count;
         pub fn strandroost_create(
+            kind: u8, number: i32, new: *const u8, new_len: usize, pool: Pool, lengths: *mut u32, lengths_len: usize,
+            counts: *mut u16, counts_len: usize, text: *mut u8, text_len: usize,
+        ) -> CreateAnswer;
+        pub fn strandroost_create_first(
             kind: u8, number: i32, new: *const u8, new_len: usize, pool: Pool, lengths: *mut u32, lengths_len: usize,
             counts: *mut u16, counts_len: usize, text: *mut u8, text_len: usize,
         ) -> CreateAnswer;
@@ -460,11 +475,23 @@ pub fn get(state: State, rooms: Rooms<'_>, number: i32, out: &mut [u8]) -> Resul
     })
 }
 
-/// One reference more on a text: its number, and the state after. Refused with 22, 24, 11, 12, 4, 6.
+/// One reference more on a text: its number, and the state after. The first entry that has the text and a count from 1 to 65,534
+/// counts up, wherever it stands; else the text goes into the first free entry, else into a new one. Refused with 22, 24, 11, 12, 4,
+/// 6; with none of the last four where an entry counts up.
 pub fn incref(state: State, rooms: RoomsMut<'_>, text: &[u8]) -> Result<(i32, State)> {
+    taken_by(c::strandroost_incref, state, rooms, text)
+}
+
+/// The same by document 01's choice, which is the crate's: the first entry that is free, or has the text and a count below 65,535.
+/// Recorded takes that are replayed by it get the numbers that were recorded. Refused as [`incref`], by the entry chosen.
+pub fn incref_first(state: State, rooms: RoomsMut<'_>, text: &[u8]) -> Result<(i32, State)> {
+    taken_by(c::strandroost_incref_first, state, rooms, text)
+}
+
+fn taken_by(take: c::Take, state: State, rooms: RoomsMut<'_>, text: &[u8]) -> Result<(i32, State)> {
     // SAFETY: the call stays within these slices, as above.
     let answer = unsafe {
-        c::strandroost_incref(
+        take(
             state.to_c(), rooms.lengths.as_mut_ptr(), rooms.lengths.len(), rooms.counts.as_mut_ptr(), rooms.counts.len(),
             rooms.text.as_mut_ptr(), rooms.text.len(), text.as_ptr(), text.len(),
         )
@@ -505,12 +532,23 @@ pub fn write_data(state: State, rooms: Rooms<'_>, out: &mut [u8]) -> Result<usiz
     })
 }
 
-/// Creates a value: a text (kind 2) is taken into the pool, any other leaves it. Refused as `incref`; a value that is no text
-/// with 22, 24, and 16 for an unknown kind.
+/// Creates a value: a text (kind 2) is taken into the pool as by [`incref`], any other leaves it. Refused as `incref`; a value that is
+/// no text with 22, 24, and 16 for an unknown kind.
 pub fn create(value: KindAndNumber, new: &[u8], state: State, rooms: RoomsMut<'_>) -> Result<(KindAndNumber, State)> {
+    created_by(c::strandroost_create, value, new, state, rooms)
+}
+
+/// The same by document 01's choice: a text is taken as by [`incref_first`].
+pub fn create_first(value: KindAndNumber, new: &[u8], state: State, rooms: RoomsMut<'_>) -> Result<(KindAndNumber, State)> {
+    created_by(c::strandroost_create_first, value, new, state, rooms)
+}
+
+fn created_by(
+    create: c::Create, value: KindAndNumber, new: &[u8], state: State, rooms: RoomsMut<'_>,
+) -> Result<(KindAndNumber, State)> {
     // SAFETY: the call stays within these slices, as above.
     let answer = unsafe {
-        c::strandroost_create(
+        create(
             value.kind, value.number, new.as_ptr(), new.len(), state.to_c(), rooms.lengths.as_mut_ptr(),
             rooms.lengths.len(), rooms.counts.as_mut_ptr(), rooms.counts.len(), rooms.text.as_mut_ptr(), rooms.text.len(),
         )

@@ -1,7 +1,7 @@
 //! String pool, columns, rows and stream names of an MSI database, as the packer needs them.
 //!
-//! Behind every call that reads or writes a stream, or changes a pool, stands a function that is proved to answer what document 01
-//! says, for every input: it returns, it reads and writes only what it is lent, and a refusal leaves everything as it was. This
+//! Behind every call that reads or writes a stream, or changes a pool, stands a function that is proved to answer what documents 01
+//! and 02 say, for every input: it returns, it reads and writes only what it is lent, and a refusal leaves everything as it was. This
 //! package owns the memory that those functions are lent, and turns their refusals into [`Refusal`]s. No call panics. Where the
 //! system has no memory, a call that asks for much is refused with 4 (entries), 6 (texts) or 7 (cells and streams); a value that is
 //! copied, and a clone, end the program there as every `Vec` does.

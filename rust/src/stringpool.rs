@@ -13,6 +13,9 @@ const MAX_BYTES: usize = 268_435_455;
 const MAX_ENTRIES: usize = StringRef::MAX as usize;
 const FEW: usize = 16;
 
+/// A take in rooms that are lent.
+type Take = fn(State, RoomsMut<'_>, &[u8]) -> Result<(i32, State)>;
+
 /// A reference to a text in the pool: its number, from 1 on.
 #[derive(Clone, Copy, Debug, PartialEq, Eq, Hash, PartialOrd, Ord)]
 pub struct StringRef(i32);
@@ -242,11 +245,45 @@ impl StringPool {
         Texts { entries: self.lengths().iter().zip(self.counts()), number: 0, rest: &self.text }
     }
 
-    /// One reference more on a text. Refused with 22, 11, 12, 6.
+    /// One reference more on a text. The first entry that has it and a count from 1 to 65,534 counts up, wherever it stands; else the
+    /// text goes into the first free entry, else into a new one. Refused with 22, 11, 12, 6; with none of the last three where an
+    /// entry counts up.
+    ///
+    /// ```
+    /// use strandroost::StringPool;
+    ///
+    /// let mut pool = StringPool::new(1252)?;
+    /// let (next, back) = (pool.incref(b"Next")?, pool.incref(b"Back")?);
+    /// pool.decref(next)?;
+    /// assert_eq!(pool.incref(b"Back")?, back);
+    /// # Ok::<(), strandroost::Refusal>(())
+    /// ```
     pub fn incref(&mut self, text: &[u8]) -> Result<StringRef> {
+        self.take_by(calls::incref, text)
+    }
+
+    /// One reference more on a text, by document 01's choice, which is the crate's: the first entry that is free, or has the text and a
+    /// count below 65,535. So a text may stand twice. For a caller that replays recorded takes: it gets the numbers that were recorded.
+    /// Refused with 22, 11, 12, 6.
+    ///
+    /// ```
+    /// use strandroost::StringPool;
+    ///
+    /// let mut pool = StringPool::new(1252)?;
+    /// let (next, back) = (pool.incref(b"Next")?, pool.incref(b"Back")?);
+    /// pool.decref(next)?;
+    /// assert_eq!(pool.incref_first(b"Back")?, next);
+    /// assert_eq!(pool.get(next), pool.get(back));
+    /// # Ok::<(), strandroost::Refusal>(())
+    /// ```
+    pub fn incref_first(&mut self, text: &[u8]) -> Result<StringRef> {
+        self.take_by(calls::incref_first, text)
+    }
+
+    fn take_by(&mut self, take: Take, text: &[u8]) -> Result<StringRef> {
         let before = (self.lengths.len(), self.text.len());
         loop {
-            match calls::incref(self.state, self.rooms_mut(), text) {
+            match take(self.state, self.rooms_mut(), text) {
                 Ok((number, after)) => {
                     self.state = after;
                     return Ok(self.taken(StringRef::answered(number)));

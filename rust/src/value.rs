@@ -141,8 +141,12 @@ pub enum ValueRef {
     Binary,
 }
 
+/// A take into a pool.
+type Take = fn(&mut StringPool, &[u8]) -> Result<StringRef>;
+
 impl ValueRef {
-    /// Puts a value into the pool, where it is a text; any other asks nothing of it. Refused as [`StringPool::incref`].
+    /// Puts a value into the pool, where it is a text, which is taken as by [`StringPool::incref`], and refused so; any other asks nothing
+    /// of it.
     ///
     /// ```
     /// use strandroost::{StringPool, Value, ValueRef};
@@ -155,10 +159,30 @@ impl ValueRef {
     /// # Ok::<(), strandroost::Refusal>(())
     /// ```
     pub fn create(value: Value, pool: &mut StringPool) -> Result<ValueRef> {
+        ValueRef::create_by(StringPool::incref, value, pool)
+    }
+
+    /// The same by document 01's choice, which is the crate's: a text is taken, and the call refused, as by
+    /// [`StringPool::incref_first`].
+    ///
+    /// ```
+    /// use strandroost::{StringPool, ValueRef};
+    ///
+    /// let mut pool = StringPool::load(&[0xe4, 4, 0, 0, 0, 0, 0, 0, 4, 0, 1, 0], b"Next")?;
+    /// let (kept, first) = (ValueRef::create("Next".into(), &mut pool)?, ValueRef::create_first("Next".into(), &mut pool)?);
+    /// assert_ne!(kept, first);
+    /// assert_eq!(kept.to_value(&pool), first.to_value(&pool));
+    /// # Ok::<(), strandroost::Refusal>(())
+    /// ```
+    pub fn create_first(value: Value, pool: &mut StringPool) -> Result<ValueRef> {
+        ValueRef::create_by(StringPool::incref_first, value, pool)
+    }
+
+    fn create_by(take: Take, value: Value, pool: &mut StringPool) -> Result<ValueRef> {
         Ok(match value {
             Value::Null => ValueRef::Null,
             Value::Int(number) => ValueRef::Int(number),
-            Value::Str(text) => ValueRef::Str(pool.incref(&text)?),
+            Value::Str(text) => ValueRef::Str(take(pool, &text)?),
             Value::Binary => ValueRef::Binary,
         })
     }

@@ -33,6 +33,17 @@ fn a_short_pool_that_is_full_refuses_with_11() {
 }
 
 #[test]
+fn a_caption_that_is_there_is_taken_again_and_stands_twice_by_the_old_choice() {
+    // A free entry before "Next", which counts 1.
+    let loaded = StringPool::load(&[0xe4, 4, 0, 0, 0, 0, 0, 0, 4, 0, 1, 0], b"Next").unwrap();
+    let counts = |pool: &StringPool| pool.texts().map(|entry| entry.count).collect::<Vec<_>>();
+    let (mut kept, mut twice) = (loaded.clone(), loaded);
+    assert_eq!((kept.incref(b"Next").unwrap().number(), counts(&kept)), (2, vec![0, 2]));
+    assert_eq!((twice.incref_first(b"Next").unwrap().number(), counts(&twice)), (1, vec![1, 1]));
+    assert_eq!((kept.write_data().unwrap(), twice.write_data().unwrap()), (b"Next".to_vec(), b"NextNext".to_vec()));
+}
+
+#[test]
 fn a_damaged_stream_is_refused_and_said_in_words() {
     let refusal = StringPool::load(&[0xe4, 4, 0, 0, 9, 0], &[]).unwrap_err();
     assert_eq!((refusal.number(), refusal.place()), (2, Place::Nowhere));

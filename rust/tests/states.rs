@@ -86,7 +86,7 @@ impl Lent {
         }
     }
 
-    fn create(&mut self, value: &Value) -> Result<KindAndNumber, Refusal> {
+    fn create(&mut self, first: bool, value: &Value) -> Result<KindAndNumber, Refusal> {
         let (kind, number) = match value {
             Value::Null => (0, 0),
             Value::Int(number) => (1, *number),
@@ -94,7 +94,8 @@ impl Lent {
             Value::Binary => (3, 0),
         };
         let text = value.as_bytes().unwrap_or_default();
-        let (cell, after) = calls::create(KindAndNumber { kind, number }, text, self.state, self.lend())?;
+        let create = if first { calls::create_first } else { calls::create };
+        let (cell, after) = create(KindAndNumber { kind, number }, text, self.state, self.lend())?;
         self.state = after;
         Ok(cell)
     }
@@ -144,13 +145,15 @@ fn same(pool: &StringPool, lent: &Lent) {
     assert_eq!(pool.write_data().unwrap(), &out[..bytes]);
 }
 
-/// A step on both pools: a take, a drop, a value that is no text, or another code page.
+/// A step on both pools: a take by either choice, a drop, a value that is no text, or another code page.
 fn step(numbers: &mut Numbers, pool: &mut StringPool, lent: &mut Lent) {
+    let first = numbers.below(2) == 1;
+    let create = if first { ValueRef::create_first } else { ValueRef::create };
     match numbers.below(8) {
         0..=2 => {
             let value = Value::Str(numbers.text());
-            let taken = ValueRef::create(value.clone(), pool).map(handed);
-            assert_eq!(taken, lent.create(&value));
+            let taken = create(value.clone(), pool).map(handed);
+            assert_eq!(taken, lent.create(first, &value));
         }
         3..=5 => {
             let number = 1 + numbers.below(lent.state.num_strings as u64 + 2) as i32;
@@ -159,8 +162,8 @@ fn step(numbers: &mut Numbers, pool: &mut StringPool, lent: &mut Lent) {
         }
         6 => {
             for shown in [Value::Null, Value::Int(7), Value::Binary] {
-                let value = ValueRef::create(shown.clone(), pool).unwrap();
-                assert_eq!(Ok(handed(value)), lent.create(&shown));
+                let value = create(shown.clone(), pool).unwrap();
+                assert_eq!(Ok(handed(value)), lent.create(first, &shown));
                 assert_eq!((value.to_value(pool), lent.value(handed(value))), (shown.clone(), shown));
                 assert_eq!(value.remove(pool), lent.remove(handed(value)));
             }

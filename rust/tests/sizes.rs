@@ -57,12 +57,16 @@ fn one_entry_too_many_is_3_whatever_the_rooms() {
 
 #[test]
 fn a_new_entry_after_the_last_number_is_12_and_11_where_references_are_short() {
-    let mut lent = Lent::new(MAX_ENTRIES + 1, u16::MAX, 1);
-    assert_eq!(number(calls::incref(state(MAX_ENTRIES, true), lent.lend(), b"A")), 12);
-    assert_eq!(number(calls::incref(state(MAX_ENTRIES, false), lent.lend(), b"A")), 11);
-    assert_eq!(number(calls::refcount(state(MAX_ENTRIES + 1, true), lent.rooms(), 1)), 24);
-    assert_eq!(calls::incref(state(MAX_ENTRIES - 1, true), lent.lend(), b"A").unwrap(), (16_777_215, state(MAX_ENTRIES, true)));
-    assert_eq!((lent.lengths[MAX_ENTRIES - 1], lent.counts[MAX_ENTRIES - 1], lent.text[0]), (1, 1, b'A'));
+    for take in [calls::incref, calls::incref_first] {
+        let mut lent = Lent::new(MAX_ENTRIES + 1, u16::MAX, 1);
+        assert_eq!(number(take(state(MAX_ENTRIES, true), lent.lend(), b"A")), 12);
+        assert_eq!(number(take(state(MAX_ENTRIES, false), lent.lend(), b"A")), 11);
+        assert_eq!(number(calls::refcount(state(MAX_ENTRIES + 1, true), lent.rooms(), 1)), 24);
+        let after = state(MAX_ENTRIES, true);
+        assert_eq!(take(state(MAX_ENTRIES - 1, true), lent.lend(), b"A").unwrap(), (16_777_215, after));
+        assert_eq!((lent.lengths[MAX_ENTRIES - 1], lent.counts[MAX_ENTRIES - 1], lent.text[0]), (1, 1, b'A'));
+        assert_eq!(take(after, lent.lend(), b"A").unwrap(), (16_777_215, after));
+    }
 }
 
 #[test]
@@ -74,11 +78,15 @@ fn streams_texts_and_text_rooms_above_the_size_are_22() {
     assert_eq!(number(calls::load(&over, &[], small.lend())), 22);
     assert_eq!(number(calls::load(&[0; 4], &over, small.lend())), 22);
     assert_eq!(number(calls::load(most, most, small.lend())), 2);
-    assert_eq!(number(calls::incref(state(0, false), small.lend(), &over)), 22);
-    assert_eq!(number(calls::incref(state(0, false), small.lend(), most)), 6);
+    for take in [calls::incref, calls::incref_first] {
+        assert_eq!(number(take(state(0, false), small.lend(), &over)), 22);
+        assert_eq!(number(take(state(0, false), small.lend(), most)), 6);
+    }
     let unknown = KindAndNumber { kind: 4, number: 0 };
-    assert_eq!(number(calls::create(unknown, &over, state(0, false), small.lend())), 22);
-    assert_eq!(number(calls::create(unknown, most, state(0, false), small.lend())), 16);
+    for create in [calls::create, calls::create_first] {
+        assert_eq!(number(create(unknown, &over, state(0, false), small.lend())), 22);
+        assert_eq!(number(create(unknown, most, state(0, false), small.lend())), 16);
+    }
     assert_eq!(number(calls::is_valid_value(calls::column_build(), unknown, &over)), 22);
     assert_eq!(number(calls::is_valid_value(calls::column_build(), unknown, most)), 16);
     assert_eq!(number(table.num_rows(&over)), 22);

@@ -7,7 +7,7 @@ use crate::internal::streamname;
 use crate::internal::stringpool::{StringPool, StringPoolBuilder, StringRef};
 use crate::internal::table::{Rows, Table};
 use crate::internal::value::{Value as CrateValue, ValueRef};
-use crate::language::{Answer, Cell, Command, Layout, Made, Place, Spec, Type, Value, MAX_COLUMNS, MAX_NAME, MAX_ROWS};
+use crate::language::{Answer, Cell, Choice, Command, Layout, Made, Place, Spec, Type, Value, MAX_COLUMNS, MAX_NAME, MAX_ROWS};
 use crate::requests;
 use std::io::{self, Cursor, Read};
 use std::panic::{catch_unwind, AssertUnwindSafe};
@@ -141,8 +141,8 @@ impl CrateSide {
                 self.pool.set_codepage(page);
                 Answer::Done
             }
-            Command::Take(text) => {
-                let text = self.text_in(&text)?;
+            Command::Take(choice, text) => {
+                let text = self.taken(choice, &text)?;
                 Answer::Number(self.pool.incref(text).number() as u64)
             }
             Command::Drop(number) => {
@@ -155,8 +155,11 @@ impl CrateSide {
             Command::WritePool => Answer::Bytes(self.pool_stream()),
             Command::WriteData => Answer::Bytes(self.data_stream()),
             Command::Sum => Answer::Sums(self.pool_stream(), self.data_stream()),
-            Command::Create(value) => {
-                let value = self.value_in(value)?;
+            Command::Create(choice, value) => {
+                let value = match value {
+                    Value::Text(text) => CrateValue::Str(self.taken(choice, &text)?),
+                    _ => self.value_in(value)?,
+                };
                 Answer::Cell(cell_out(ValueRef::create(value, &mut self.pool)))
             }
             Command::Remove(cell) => {
@@ -221,6 +224,14 @@ impl CrateSide {
             return Ok(self.pool.codepage().decode(bytes));
         }
         Err(Stop::Outside)
+    }
+
+    /// A text to be taken: the crate has document 01's choice alone.
+    fn taken(&self, choice: Choice, bytes: &[u8]) -> Asked<String> {
+        if choice == Choice::Default && !self.raw {
+            return Err(Stop::Outside);
+        }
+        self.text_in(bytes)
     }
 
     fn text_out(&self, text: &str) -> Vec<u8> {

@@ -67,6 +67,15 @@ pub struct Layout {
     pub columns: Vec<Made>,
 }
 
+/// Which entry a take chooses.
+#[derive(Clone, Copy, Debug, PartialEq)]
+pub enum Choice {
+    /// The first that is free or equal: document 01's choice, and the crate's.
+    First,
+    /// An equal one wherever it stands, else the first free one.
+    Default,
+}
+
 #[derive(Clone, Debug)]
 pub enum Command {
     Enc(bool, Vec<u16>),
@@ -75,7 +84,7 @@ pub enum Command {
     New(u32),
     Load(Vec<u8>, Vec<u8>),
     Page(u32),
-    Take(Vec<u8>),
+    Take(Choice, Vec<u8>),
     Drop(i32),
     Show(i32),
     Count(i32),
@@ -83,7 +92,7 @@ pub enum Command {
     WritePool,
     WriteData,
     Sum,
-    Create(Value),
+    Create(Choice, Value),
     Remove(Cell),
     Value(Cell),
     Col(Spec),
@@ -325,7 +334,8 @@ pub fn command_of(line: &str) -> Option<Command> {
         ["new", page] => Command::New(page.parse().ok()?),
         ["load", pool, data] => Command::Load(bytes_of(pool)?, bytes_of(data)?),
         ["page", page] => Command::Page(page.parse().ok()?),
-        ["take", text] => Command::Take(bytes_of(text)?),
+        ["take", text] => Command::Take(Choice::First, bytes_of(text)?),
+        ["take-default", text] => Command::Take(Choice::Default, bytes_of(text)?),
         ["drop", number] => Command::Drop(number_of(number)?),
         ["show", number] => Command::Show(number_of(number)?),
         ["count", number] => Command::Count(number_of(number)?),
@@ -333,7 +343,8 @@ pub fn command_of(line: &str) -> Option<Command> {
         ["wpool"] => Command::WritePool,
         ["wdata"] => Command::WriteData,
         ["sum"] => Command::Sum,
-        ["create", value] => Command::Create(value_of(value)?),
+        ["create", value] => Command::Create(Choice::First, value_of(value)?),
+        ["create-default", value] => Command::Create(Choice::Default, value_of(value)?),
         ["remove", cell] => Command::Remove(cell_of(cell)?),
         ["value", cell] => Command::Value(cell_of(cell)?),
         ["col", made, marks] => Command::Col(spec_of(made, marks, "-")?),

@@ -1,7 +1,7 @@
 //! What the crate has no notion of: lent rooms and outputs, and the refusals that come of them. The port is held to the crate's
 //! answer for an output that suffices, to a small model of the pool in its rooms, and to the answers of document 01: the edges of
 //! crates/edges, and every column's bits.
-use crate::language::{bytes_of, put_bytes};
+use crate::language::{bytes_of, put_bytes, Choice};
 use crate::random::Random;
 
 /// What the port has to answer.
@@ -152,7 +152,7 @@ fn listed<T: ToString>(numbers: &[T]) -> String {
     or_none(numbers.iter().map(T::to_string).collect::<Vec<_>>().join(","))
 }
 
-/// A pool in lent rooms, written down from document 01's words alone.
+/// A pool in lent rooms, written down from document 01's words alone, its default take from document 02's.
 struct Model {
     entries: Vec<(Vec<u8>, u16)>,
     lengths: Vec<u32>,
@@ -200,10 +200,19 @@ impl Model {
         format!("ok 1252 0 {count}")
     }
 
-    fn take(&mut self, text: &[u8]) -> String {
-        let mut after = self.entries.clone();
-        let fits = |entry: &(Vec<u8>, u16)| entry.1 == 0 || entry.0 == text && entry.1 < 65_535;
-        let place = after.iter().position(fits).unwrap_or(after.len());
+    /// The place of the entry that a take chooses; past the last it is a new one.
+    fn chosen(&self, choice: Choice, text: &[u8]) -> usize {
+        let free = |entry: &(Vec<u8>, u16)| entry.1 == 0;
+        let equal = |entry: &(Vec<u8>, u16)| entry.0 == text && (1..=65_534).contains(&entry.1);
+        let found = match choice {
+            Choice::First => self.entries.iter().position(|entry| free(entry) || equal(entry)),
+            Choice::Default => self.entries.iter().position(equal).or_else(|| self.entries.iter().position(free)),
+        };
+        found.unwrap_or(self.entries.len())
+    }
+
+    fn take(&mut self, choice: Choice, text: &[u8]) -> String {
+        let (place, mut after) = (self.chosen(choice, text), self.entries.clone());
         match after.get_mut(place) {
             Some(entry) if entry.1 > 0 => entry.1 += 1,
             Some(entry) => *entry = (text.to_vec(), 1),
@@ -239,11 +248,29 @@ fn small_text(random: &mut Random) -> Vec<u8> {
     (0..random.below(4)).map(|_| random.pick(b"AB")).collect()
 }
 
+/// A text of one of the entries, or any.
+fn text_among(random: &mut Random, entries: &[(Vec<u8>, u16)]) -> Vec<u8> {
+    let place = random.below(2 * entries.len() + 1);
+    entries.get(place).map_or_else(|| small_text(random), |entry| entry.0.clone())
+}
+
+fn choice(random: &mut Random) -> Choice {
+    random.pick(&[Choice::First, Choice::Default])
+}
+
+/// The command of a take or a create by this choice.
+fn word(first: &str, choice: Choice) -> String {
+    match choice {
+        Choice::First => first.into(),
+        Choice::Default => format!("{first}-default"),
+    }
+}
+
 /// A step on a pool in lent rooms.
 #[derive(Clone)]
 enum Step {
-    Take(Vec<u8>),
-    Create(Vec<u8>),
+    Take(Choice, Vec<u8>),
+    Create(Choice, Vec<u8>),
     Drop(usize),
     Remove(usize),
     Value(usize),
@@ -252,10 +279,11 @@ enum Step {
 }
 
 impl Step {
-    fn new(random: &mut Random) -> Step {
+    /// A step on a pool that was loaded with these entries.
+    fn new(random: &mut Random, entries: &[(Vec<u8>, u16)]) -> Step {
         match random.below(9) {
-            0..=2 => Step::Take(small_text(random)),
-            3 | 4 => Step::Create(small_text(random)),
+            0..=2 => Step::Take(choice(random), text_among(random, entries)),
+            3 | 4 => Step::Create(choice(random), text_among(random, entries)),
             5 | 6 => Step::Drop(1 + random.below(5)),
             7 => Step::Remove(1 + random.below(5)),
             _ => match random.below(4) {
@@ -269,8 +297,10 @@ impl Step {
 
     fn line_and_answer(&self, model: &mut Model) -> (String, String) {
         match self {
-            Step::Take(text) => (format!("take {}", hex(text)), model.take(text)),
-            Step::Create(text) => (format!("create t{}", hex(text)), model.take(text).replace("ok ", "ok s")),
+            Step::Take(choice, text) => (format!("{} {}", word("take", *choice), hex(text)), model.take(*choice, text)),
+            Step::Create(choice, text) => {
+                (format!("{} t{}", word("create", *choice), hex(text)), model.take(*choice, text).replace("ok ", "ok s"))
+            }
             Step::Drop(number) => (format!("drop {number}"), model.drop(*number)),
             Step::Remove(number) => (format!("remove s{number}"), model.drop(*number)),
             Step::Value(number) => {
@@ -295,8 +325,9 @@ struct Recipe {
 impl Recipe {
     fn new(random: &mut Random) -> Recipe {
         let (lengths, counts, text) = (random.below(6), random.below(6), random.below(9));
-        let entries = (0..random.below(5)).map(|_| (small_text(random), random.pick(&[0, 1, 2, 65_535]))).collect();
-        Recipe { lengths, counts, text, entries, steps: (0..6).map(|_| Step::new(random)).collect() }
+        let entries: Vec<_> = (0..random.below(5)).map(|_| (small_text(random), random.pick(&[0, 1, 2, 65_534, 65_535]))).collect();
+        let steps = (0..6).map(|_| Step::new(random, &entries)).collect();
+        Recipe { lengths, counts, text, entries, steps }
     }
 
     fn smaller(&self) -> Vec<Recipe> {
@@ -356,8 +387,9 @@ fn by_document() -> LentCase {
 /// program of crates/edges has.
 fn over_size() -> LentCase {
     const STAGE: [&str; 5] = ["new 1252", "out 0", "lend 0 0 0", "lend 1 1 268435456", "pool 2 0 1252"];
-    const CALLS: [&str; 12] = [
-        "show 0", "count 0", "take 41", "drop 0", "page 4294967295", "create n", "create t41", "remove n", "value n", "load 00 -", "wpool", "wdata",
+    const CALLS: [&str; 15] = [
+        "show 0", "count 0", "take 41", "take-default 41", "drop 0", "page 4294967295", "create n", "create t41", "create-default n",
+        "create-default t41", "remove n", "value n", "load 00 -", "wpool", "wdata",
     ];
     const END: [&str; 4] = ["new 1252", "out -", "lend 0 0 0", "lend -"];
     let all = |lines: &[&str], answer: &str| lines.iter().map(|line| (line.to_string(), Expect::Is(answer.into()))).collect::<Vec<_>>();

@@ -1,6 +1,6 @@
 //! The port's calls, asked in the words of language.rs. Rooms and outputs are lent as the commands say: by default as much as
 //! suffices.
-use crate::language::{self, Answer, Cell, Command, Held, Made, Place, Room, Spec, Type, Value};
+use crate::language::{self, Answer, Cell, Choice, Command, Held, Made, Place, Room, Spec, Type, Value};
 use strandroost::calls::{self, ColumnParts, KindAndNumber, Layout, Rooms, RoomsMut, State};
 use std::collections::HashMap;
 use strandroost::Refusal;
@@ -50,7 +50,7 @@ fn changes(command: &Command) -> bool {
     use Command::*;
     matches!(
         command,
-        New(_) | Load(..) | Page(_) | Take(_) | Drop(_) | Create(_) | Remove(_) | Lend(_) | Out(_) | Hold(_) | Pool(..)
+        New(_) | Load(..) | Page(_) | Take(..) | Drop(_) | Create(..) | Remove(_) | Lend(_) | Out(_) | Hold(_) | Pool(..)
     )
 }
 
@@ -218,7 +218,7 @@ impl PortSide {
                 self.state = calls::set_codepage(self.state, self.rooms(), page)?;
                 Answer::Done
             }
-            Command::Take(text) => Answer::Number(self.take(&text)? as u64),
+            Command::Take(choice, text) => Answer::Number(self.take(choice, &text)? as u64),
             Command::Drop(number) => {
                 self.state = calls::decref(self.state, self.rooms_mut(), number)?;
                 Answer::Done
@@ -229,7 +229,7 @@ impl PortSide {
             Command::WritePool => Answer::Bytes(self.pool_stream()?),
             Command::WriteData => Answer::Bytes(self.data_stream()?),
             Command::Sum => Answer::Sums(self.pool_stream()?, self.data_stream()?),
-            Command::Create(value) => Answer::Cell(self.create(&value)?),
+            Command::Create(choice, value) => Answer::Cell(self.create(choice, &value)?),
             Command::Remove(cell) => {
                 self.state = calls::remove(cell_in(cell), self.state, self.rooms_mut())?;
                 Answer::Done
@@ -363,13 +363,21 @@ impl PortSide {
         }
     }
 
-    fn take(&mut self, text: &[u8]) -> Asked<i32> {
-        self.taking(text, |state, rooms| calls::incref(state, rooms, text))
+    fn take(&mut self, choice: Choice, text: &[u8]) -> Asked<i32> {
+        let incref = match choice {
+            Choice::First => calls::incref_first,
+            Choice::Default => calls::incref,
+        };
+        self.taking(text, |state, rooms| incref(state, rooms, text))
     }
 
-    fn create(&mut self, value: &Value) -> Asked<Cell> {
+    fn create(&mut self, choice: Choice, value: &Value) -> Asked<Cell> {
+        let create = match choice {
+            Choice::First => calls::create_first,
+            Choice::Default => calls::create,
+        };
         let (handed, text) = value_in(value);
-        let made = self.taking(text, |state, rooms| calls::create(handed, text, state, rooms))?;
+        let made = self.taking(text, |state, rooms| create(handed, text, state, rooms))?;
         Ok(cell_out(made.kind, made.number))
     }
 

@@ -1,5 +1,6 @@
 //! `desk/bench`: the crate and the port on the same inputs, in one program and one run. Prints a line for each measurement: what,
-//! at what size, the crate's nanoseconds and the port's, the best of many rounds each.
+//! at what size, the crate's nanoseconds and the port's, the best of many rounds each. Of a take by default, which the crate does
+//! not have, the port's nanoseconds by document 01's choice stand in place of the crate's.
 //! Buffers: the crate makes its own in every call, as its signatures ask; the port's rooms and outputs are lent, and have been
 //! written before. Inputs lie in memory before the clock starts.
 #![allow(dead_code, unused_macros)]
@@ -126,6 +127,15 @@ fn text_at(n: usize, mixed: bool) -> String {
     }
 }
 
+/// Texts that are in no pool here, one after another.
+fn new_texts() -> impl FnMut() -> String {
+    let mut next = 0;
+    move || {
+        next += 1;
+        text_at(900_000 + next % 90_000, false)
+    }
+}
+
 fn crate_load(stream: &[u8], data: &[u8]) -> StringPool {
     let builder = StringPoolBuilder::read_from_pool(Cursor::new(stream)).expect("a good pool stream");
     builder.build_from_data(Cursor::new(data)).expect("a good data stream")
@@ -172,7 +182,12 @@ impl Pools {
         calls::load(&self.stream, &self.data, rooms).expect("rooms that suffice")
     }
 
+    /// By document 01's choice, which is the crate's.
     fn port_take(&mut self, text: &[u8]) {
+        self.state = calls::incref_first(self.state, self.rooms_mut(), text).expect("a take").1;
+    }
+
+    fn port_take_default(&mut self, text: &[u8]) {
         self.state = calls::incref(self.state, self.rooms_mut(), text).expect("a take").1;
     }
 
@@ -181,7 +196,7 @@ impl Pools {
     }
 
     fn port_create(&mut self, text: &[u8]) {
-        self.state = calls::create(text_cell(0), text, self.state, self.rooms_mut()).expect("a take").1;
+        self.state = calls::create_first(text_cell(0), text, self.state, self.rooms_mut()).expect("a take").1;
     }
 
     fn port_remove(&mut self, number: usize) {
@@ -244,13 +259,38 @@ impl Pools {
 
     /// Texts that are not there: an entry is added for each.
     fn bench_miss(&mut self, what: &str, entries: usize) {
-        let mut next = 0;
-        let fresh = || {
-            next += 1;
-            text_at(900_000 + next % 90_000, false)
-        };
         let krate = |pool: &mut StringPool, text: String| drop(black_box(pool.incref(text)));
-        self.compare(what, entries, 10, |_| (), fresh, krate, |pools, text| pools.port_take(text.as_bytes()));
+        self.compare(what, entries, 10, |_| (), new_texts(), krate, |pools, text| pools.port_take(text.as_bytes()));
+    }
+
+    /// A take by default, the first entry free or not; and by document 01's choice where none is free.
+    fn bench_default(&mut self, what: &str, entries: usize, free: bool, calls: usize, mut inputs: impl FnMut() -> String) {
+        let fresh = |pools: &mut Pools| pools.state = pools.port_load();
+        let freed = |pools: &mut Pools| {
+            fresh(pools);
+            if free {
+                pools.port_drop(1);
+            }
+        };
+        let first = timed_on(self, calls, fresh, &mut inputs, |pools, text| pools.port_take(text.as_bytes()));
+        let default = timed_on(self, calls, freed, &mut inputs, |pools, text| pools.port_take_default(text.as_bytes()));
+        show(what, entries, first, default);
+    }
+
+    fn bench_defaults(&mut self, entries: usize, mixed: bool, free: bool) {
+        let lengths = if mixed { "mixed" } else { "equal" };
+        let kind = if free { "take by default, first entry free" } else { "take by default" };
+        for (which, place) in [("last", entries - 1), ("middle", entries / 2)] {
+            let what = format!("{kind}, {which} of {lengths} lengths");
+            self.bench_default(&what, entries, free, 20, || text_at(place, mixed));
+        }
+        if !mixed {
+            // Of the texts that are there: a free entry has none.
+            self.bench_default(&format!("{kind}, first"), entries, free, 20, || text_at(usize::from(free), mixed));
+        }
+        // The first new text fills the free entry, so that there is one for one call.
+        let calls = if free { 1 } else { 10 };
+        self.bench_default(&format!("{kind}, new among {lengths} lengths"), entries, free, calls, new_texts());
     }
 
     fn bench_numbers(&mut self, entries: usize) {
@@ -306,6 +346,9 @@ fn bench_pools(sizes: &[usize]) {
                 pools.bench_hit("take, first", entries, &text_at(0, mixed));
             }
             pools.bench_miss(&format!("take, new among {lengths} lengths"), entries);
+            pools.bench_defaults(entries, mixed, false);
+            pools.bench_defaults(entries, mixed, true);
+            pools.reload();
             if mixed {
                 pools.bench_numbers(entries);
                 pools.bench_values(entries);

@@ -12,16 +12,20 @@ Was s = rooms (now (s .args .lengths)) (now (s .args .counts)) (now (s .args .te
 
 returns : tie.Need-returns
 returns c =
-    let s = c .before .before .before .before .before .before .before .before .before .before .before .before .before .before .before .before .before in
-    rw (c .created-of .ensures) (create-text (s .args .value) (now (s .args .new)) (s .args .pool) (Was s) firstFreeOrEqual _ (c .before .before .before .before .before .before .before .incref-first .result) (sym (c .before .before .before .before .before .before .before .before .before .before .before .before .is-text .ensures) ∙ c .before .before .before .before .before .before .before .before .before .before .before .if1 .taken) (c .before .before .before .before .before .before .before .incref-first .ensures))
+    let taken = c .before .before .before .before .before .before .before in
+    let test = taken .before .before .before .before in
+    let s = test .before .before .before .before .before .before in
+    rw (c .created-of .ensures)
+    (create-text (s .args .value) (now (s .args .new)) (s .args .pool) (Was s) firstFreeOrEqual _ (taken .incref-first .result) (sym (test .before .is-text .ensures) ∙ test .if1 .taken) (taken .incref-first .ensures))
 
 create-plain-requires : tie.Need-create-plain-requires
 create-plain-requires c κs = sym (c .before .before .before .before .is-text .ensures) ∙ c .before .before .before .if1 .left
 
 returns-2 : tie.Need-returns-2
 returns-2 c =
-    let s = c .before .before .before .before .before .before .before .before .before .before in
-    create-plain (s .args .value) (now (s .args .new)) (s .args .pool) (Was s) firstFreeOrEqual (sym (c .before .before .before .before .before .is-text .ensures) ∙ c .before .before .before .before .if1 .left) (c .create-plain .ensures)
+    let test = c .before .before .before .before in
+    let s = test .before .before .before .before .before .before in
+    create-plain (s .args .value) (now (s .args .new)) (s .args .pool) (Was s) firstFreeOrEqual (sym (test .before .is-text .ensures) ∙ test .if1 .left) (c .create-plain .ensures)
 
 pub create-first-spec : {M : Type 1} → statement M
 create-first-spec =

@@ -1,4 +1,6 @@
 // The command language of desk/PROTOCOL.md, answered line by line by the calls of the port, on standard output.
+#![tactic(auto)]
+
 mod line;
 
 use commands::shown;

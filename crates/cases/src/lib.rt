@@ -1,5 +1,7 @@
 // The thirteen cases of document 01's proved table, run through the public calls. Each answers and leaves what the call of
 // its question in specs/Cases.antt does.
+#![tactic(auto)]
+
 mod names;
 mod pools;
 mod tables;

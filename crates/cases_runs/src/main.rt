@@ -1,5 +1,7 @@
 // Document 01's proved table, run through the public calls. A line says what was handed in and what came of it; the lines are the
 // comments of crates/cases/specs/Cases.antt, and .ci/trace compares them.
+#![tactic(auto)]
+
 mod cells;
 mod names;
 mod pools;

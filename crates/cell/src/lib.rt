@@ -1,4 +1,6 @@
 // A cell of a table: what it holds, on reading and for writing, the types of columns, and the form in which each stores it.
+#![tactic(auto)]
+
 mod form;
 mod signed;
 mod value;

@@ -1,4 +1,6 @@
 // Columns of a table: type and marks, their bits, and the check of a value.
+#![tactic(auto)]
+
 mod bits;
 mod check;
 mod column;

@@ -1,4 +1,6 @@
 // The cells of one column among those of all, judged and read.
+#![tactic(auto)]
+
 mod judge;
 mod read;
 mod stride;

@@ -1,5 +1,7 @@
 // The command language of desk/PROTOCOL.md, for the crates that answer it: words read from a text by their places, answers written,
 // and the places of lent memory.
+#![tactic(auto)]
+
 pub mod kept;
 pub mod lists;
 pub mod numbers;

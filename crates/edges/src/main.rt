@@ -1,4 +1,6 @@
 // Answers the commands of stdin, the edges of document 01: comments there say which rule each line is at.
+#![tactic(auto)]
+
 use libc::STDIN_FILENO;
 
 fn main() {

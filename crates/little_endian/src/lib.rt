@@ -1,4 +1,6 @@
 // Numbers in a few bytes, the lowest byte first. Document 01: "All numbers are little-endian."
+#![tactic(auto)]
+
 ghost use Rattle.std.specs.Prelude.{◌≡◌, ◌+◌, ◌≤◌, min, length, get_or};
 ghost use Rattle.common.specs.Lists.{over_at};
 ghost use Rattle.little_endian.specs.Numbers.{bytes_of, read_answer, written_as, put_outcome};

@@ -1,4 +1,6 @@
 // Commands on stream names, and on a reference number by itself.
+#![tactic(auto)]
+
 ghost use Rattle.std.specs.Prelude.{◌≡◌, ◌≤◌, length};
 
 use commands::shown::Form;

@@ -1,4 +1,6 @@
 // Document 01, "Order": which refusal a call meets first, by numbers alone.
+#![tactic(auto)]
+
 mod change;
 mod load;
 mod table;

@@ -1,4 +1,6 @@
 // Commands on the pool.
+#![tactic(auto)]
+
 mod adler;
 mod pools;
 mod written;

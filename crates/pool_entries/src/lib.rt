@@ -1,4 +1,6 @@
 // A pool's entries in the lent rooms: whether they are sound, how many bytes their texts use, and which one a take chooses, by each of two ways.
+#![tactic(auto)]
+
 mod adding;
 mod choosing;
 mod frees;

@@ -1,5 +1,7 @@
 // The entries of a pool stream, read into lent lengths and counts and written from them; a load is settled before a byte is
 // written.
+#![tactic(auto)]
+
 mod entry;
 mod load;
 mod plan;

@@ -1,4 +1,6 @@
 // Values and the string pool: a value is created with its text, removed, and shown again. A text stands beside the enum.
+#![tactic(auto)]
+
 ghost use Rattle.std.specs.Prelude.{◌≡◌, false, pos};
 ghost use Rattle.stringpool.specs.Pool.{rooms, pooled_as};
 ghost use Rattle.stringpool.specs.Take.{first_free_or_equal, equal_then_free_lem};

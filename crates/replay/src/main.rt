@@ -1,4 +1,6 @@
 // Answers the commands of stdin, which were recorded with the crate's answers: stdout holds the crate's.
+#![tactic(auto)]
+
 use libc::STDIN_FILENO;
 
 fn main() {

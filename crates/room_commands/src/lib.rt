@@ -1,5 +1,7 @@
 // Lent memory: the rooms of the one pool, the places of an output, and the commands on them. The crate owns its memory; the port is
 // lent it.
+#![tactic(auto)]
+
 pub mod held;
 pub mod hold;
 pub mod lend;

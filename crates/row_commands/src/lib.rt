@@ -1,4 +1,6 @@
 // Commands that read the rows of a table: all of them, the row reader's cells, and a cell by its place.
+#![tactic(auto)]
+
 ghost use Rattle.std.specs.Prelude.{◌≡◌, length};
 
 use cell::ValueRef;

@@ -1,4 +1,6 @@
 // The row reader: the lent stream of a table and a place in it, answering one cell after another, row by row.
+#![tactic(auto)]
+
 ghost use Rattle.std.specs.Prelude.{◌≡◌};
 ghost use Rattle.common.specs.Refusals.{number_of, where_of};
 ghost use Rattle.rows.specs.Next.{step_as, next_outcome, beginning};

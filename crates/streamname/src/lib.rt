@@ -1,5 +1,7 @@
 // Stream names of an MSI database: packed into fewer UTF-16 units, and back.
 // The rules are document 01, "Stream names, in UTF-16 units"; specs/Names.antt says them, specs/Calls.antt what each call answers.
+#![tactic(auto)]
+
 mod decoding;
 mod encoding;
 mod letters;

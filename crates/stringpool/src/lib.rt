@@ -1,4 +1,6 @@
 // The string pool: entries with a reference count each, their texts end to end in a lent text room.
+#![tactic(auto)]
+
 mod drops;
 mod entry;
 mod load;

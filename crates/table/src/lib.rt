@@ -1,4 +1,6 @@
 // Tables: a layout by value, cells read by place and in bulk, and written in bulk.
+#![tactic(auto)]
+
 mod column_write;
 mod layout;
 mod read;

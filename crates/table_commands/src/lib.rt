@@ -1,4 +1,6 @@
 // Commands on columns and tables: a column by itself, the layout of a table, and rows written.
+#![tactic(auto)]
+
 pub mod columns;
 pub mod layouts;
 

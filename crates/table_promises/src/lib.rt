@@ -1,1 +1,2 @@
 // What columns and tables promise over several calls, stated in specs/ and proved in proofs/. There is no code here.
+#![tactic(auto)]

@@ -1,4 +1,6 @@
 // Commands on values: what the pool has for a text, and what it shows of a reference.
+#![tactic(auto)]
+
 use cell::{Value, ValueRef};
 use commands::lists::{Cell, cell_at};
 use commands::words::{after, front};

@@ -1,4 +1,6 @@
 // The widths of a table's columns, its rows in a stream, and where each column begins there. Its layout is judged on the way.
+#![tactic(auto)]
+
 mod places;
 mod widths;
 

@@ -30,7 +30,7 @@ pub enum ColumnType {
     Binary,
 }
 
-#[derive(Drop)]
+#[derive(Clone, Copy)]
 pub enum CellForm {
     Int16,
     Int32,

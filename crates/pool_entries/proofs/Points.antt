@@ -1,6 +1,6 @@
 -- The points of specs/Points.antt, by computation.
 use Rattle.std.proofs.Common.{◌≡◌, ℕ, Bool, true, false, not, ◌&&◌, ◌||◌, List, [], ◌∷◌, length, take, sym, refl, ap, ◌∙◌, ap₂, arith, le-ltb, lt-ltb, le-leb}
-use mathlib.Core.Bool.{and_false, and_true}
+use mathlib.Core.Bool.{and-false, and-true}
 use borrow.Author.Tests.{lt-leb}
 use Rattle.common.specs.Choice.{if◌then◌else◌, ◌≤?◌}
 use Rattle.common.specs.Lists.{total}
@@ -41,7 +41,7 @@ unfolding sound_rooms
 too_many n page w h =
     let small : Bool = all (λ (e : Entry). not (free e) || length e.text ≤? 65535) (first_entries n w) in
     ap (λ (b : Bool). n ≤? entry_room_lem w && b && page ≤? 2147483647 && total (take n w.lengths) ≤? length w.text && small) (lt-leb n 16777215 h)
-    ∙ ap (λ (b : Bool). b && page ≤? 2147483647 && total (take n w.lengths) ≤? length w.text && small) (and_false (n ≤? entry_room_lem w))
+    ∙ ap (λ (b : Bool). b && page ≤? 2147483647 && total (take n w.lengths) ≤? length w.text && small) (and-false (n ≤? entry_room_lem w))
 
 pub code_page : CodePage
 unfolding sound_rooms
@@ -76,7 +76,7 @@ unfolding sound_rooms
 as_many n page w h =
     let small : Bool = all (λ (e : Entry). not (free e) || length e.text ≤? 65535) (first_entries n w) in
     ap (λ (b : Bool). n ≤? entry_room_lem w && b && page ≤? 2147483647 && total (take n w.lengths) ≤? length w.text && small) (le-leb n 16777215 h)
-    ∙ ap (λ (b : Bool). b && page ≤? 2147483647 && total (take n w.lengths) ≤? length w.text && small) (and_true (n ≤? entry_room_lem w))
+    ∙ ap (λ (b : Bool). b && page ≤? 2147483647 && total (take n w.lengths) ≤? length w.text && small) (and-true (n ≤? entry_room_lem w))
 
 pub text-at_size : TextAtSize
 text-at_size choose n page w t h = simp (le-ltb 268435455 (length t) h)

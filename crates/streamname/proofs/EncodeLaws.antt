@@ -2,7 +2,7 @@
 use Prim.Native.Nat.{ℕ, suc, ◌+◌, ◌*◌, ◌≤◌, ◌<◌}
 use mathlib.Core.Path.{◌≡◌, refl, sym, ap, ◌∙◌}
 use mathlib.Core.List.{List, [], ◌∷◌}
-use mathlib.Core.Bool.{Bool, true, false, ◌&&◌, ◌||◌, and_assoc, and_true}
+use mathlib.Core.Bool.{Bool, true, false, ◌&&◌, ◌||◌, and_assoc, and-true}
 use mathlib.Core.Option.{Option, none, some}
 use native.Mathlib.Omega.{arith}
 use native.Mathlib.Numerals.{add-one}
@@ -106,7 +106,7 @@ module _ (name : List ℕ) (m : Tally) (p : Packed) (so_far : Tallied name m) (f
         fewer = omega (arith, so_far.fewer, f.moves);
         within = f.within;
         counted = counted-on;
-        judged = ap (λ b. b && every allowed (drop (m.at + p.used) name)) (sym (and_true m.allowed)) ∙ judged-on true (rw (lt-ltb 1 p.used h));
+        judged = ap (λ b. b && every allowed (drop (m.at + p.used) name)) (sym (and-true m.allowed)) ∙ judged-on true (rw (lt-ltb 1 p.used h));
       }
 
   pub tally-one : p.used ≤ 1 → Tallied name (record { units = m.units + 1; allowed = m.allowed && allowed (get_or name m.at 0); at = m.at + p.used })
@@ -125,7 +125,7 @@ encoded-end name i h = rw (drop_of_length-le name h)
 
 -- and all is tallied
 pub tallied_all : (name : List ℕ) (m : Tally) → Tallied name m → length name ≤ m.at → (m.units ≡ length (encoded name)) × (m.allowed ≡ every allowed name)
-tallied_all name m t h = (omega (arith, t.counted, ap length (encoded-end name m.at h)), sym (and_true m.allowed) ∙ (rw (drop_of_length-le name h) at t.judged))
+tallied_all name m t h = (omega (arith, t.counted, ap length (encoded-end name m.at h)), sym (and-true m.allowed) ∙ (rw (drop_of_length-le name h) at t.judged))
 
 -- a packed name is no longer than the name
 greedy-short : (p : Option ℕ) (x y : List ℕ) (n : ℕ) → length x < n → length y ≤ n → length (greedy p x y) ≤ n

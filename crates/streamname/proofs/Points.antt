@@ -1,7 +1,7 @@
 -- The points of specs/Points.antt, by computation.
 use Prim.Native.Nat.{ℕ, zero, suc, ◌*◌, ◌≤◌, ◌<◌}
 use mathlib.Core.Path.{◌≡◌, refl, sym}
-use mathlib.Core.Bool.{false, and_false}
+use mathlib.Core.Bool.{false, and-false}
 use mathlib.Core.List.{List, [], ◌∷◌}
 use native.Mathlib.Nat.{zero-mul, suc-mul}
 use native.Mathlib.Omega.{arith}
@@ -53,7 +53,7 @@ named n p q =
     let s : List ℕ = replicate n 0x30 in
     let l : length s ≡ n = length-replicate n 0x30 in
     let e = encoded-half s in
-    (sym (encode_short s false [] (omega arith) (omega arith)), rw (le-ltb 65535 (length s) (omega arith), lt-leb (length (encoded s)) 31 (omega arith), and_false))
+    (sym (encode_short s false [] (omega arith) (omega arith)), rw (le-ltb 65535 (length s) (omega arith), lt-leb (length (encoded s)) 31 (omega arith), and-false))
 
 named_over : (n : ℕ) → 65535 < n → (encode_outcome (replicate n 0x30) false [] ≡ (refused 22 nowhere, [])) × (valid_answer (replicate n 0x30) false ≡ refused 22 nowhere)
 named_over n h =

@@ -1,0 +1,19 @@
+use Rattle.streamname.proofs.DecodeLaws.{decoded-next, decoded-end, short}
+use Rattle.streamname.specs.Names.{decoded}
+use lib.ListN.{length, drop, length-append}
+use mathlib.Core.Path.{◌≡◌, ap}
+use native.Mathlib.Omega.{arith}
+use Prim.Native.Nat.{◌+◌, ◌*◌, ◌-◌, ◌≤◌}
+use Rattle.std.proofs.Common.{rules}
+use Rattle.streamname.proofs.decoding.decoded_len.Goals as goal
+
+pub loop-i-preserved : goal.loop-i-preserved
+loop-i-preserved c =
+    omega (
+      arith,
+      short c.unpack.result,
+      simp length-append at (ap length (decoded-next c.args.stored.now c.loop-i.i c.unpack.result c.loop-i-test.true c.unpack.ensures)),
+    )
+
+pub returns : goal.returns
+returns c = omega (arith, ap length (decoded-end c.args.stored.now c.loop-i.i c.loop-i-test.false))

@@ -1,0 +1,9 @@
+use Prim.Native.Nat.{◌-◌}
+use native.Mathlib.Omega.{arith}
+use lib.ListN.{drop, length-drop}
+use Rattle.common.proofs.Run.{Run, run-start, run-turn, run_end, move_reads}
+use Rattle.std.proofs.Common.{rules}
+use Rattle.text_room.proofs.text.move_down.Goals as goal
+
+pub loop-j-preserved : goal.loop-j-preserved
+loop-j-preserved c = run-turn _ 0 (omega arith) (simp length-drop (omega arith)) c.loop-j.invariant c.loop-j-test.true (move_reads 0 c.requires.0 c.requires.1 c.loop-j.invariant c.loop-j-test.true)

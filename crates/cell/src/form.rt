@@ -21,7 +21,7 @@ const NULL: u32 = 0;
 
 const BINARY: u32 = 1;
 
-#[derive(Drop)]
+#[derive(Clone, Copy)]
 pub enum ColumnType {
     Int16,
     Int32,
@@ -39,14 +39,14 @@ pub enum CellForm {
     Binary,
 }
 
-#[derive(Drop)]
+#[derive(Clone, Copy)]
 pub enum FormOf {
     Form(CellForm),
     Refused(Refusal),
 }
 
 // The number that a cell stores, or why it cannot be stored.
-#[derive(Drop)]
+#[derive(Clone, Copy)]
 pub enum Stored {
     Number(u32),
     Refused(Refusal),

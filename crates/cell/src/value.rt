@@ -5,7 +5,7 @@ ghost use Rattle.cell.specs.Handed.{cell_of};
 
 use common::StringRef;
 
-#[derive(Drop)]
+#[derive(Clone, Copy)]
 pub enum ValueRef {
     Null,
     Int(i32),
@@ -14,7 +14,7 @@ pub enum ValueRef {
 }
 
 // A value whose text, where it is one, stands beside it.
-#[derive(Drop)]
+#[derive(Clone, Copy)]
 pub enum Value {
     Null,
     Int(i32),
@@ -23,7 +23,7 @@ pub enum Value {
 }
 
 // A cell handed over for writing. Its number was not looked at, and its kind may be unknown.
-#[derive(Drop)]
+#[derive(Clone, Copy)]
 pub enum Cell {
     Null,
     Int(i32),

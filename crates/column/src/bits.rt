@@ -26,7 +26,7 @@ const INT16_SIZE: i32 = 2;
 const INT32_SIZE: i32 = 4;
 
 // The type that bits name, or that the size of an integer column is none.
-#[derive(Drop)]
+#[derive(Clone, Copy)]
 pub(crate) enum Read {
     Type(ColumnType),
     BadSize,

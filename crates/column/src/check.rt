@@ -7,7 +7,7 @@ use crate::column::{Column, ValueRange};
 use cell::{ColumnType, Value};
 use common::Refusal;
 
-#[derive(Drop)]
+#[derive(Clone, Copy)]
 pub enum Validity {
     Valid,
     Invalid,

@@ -9,13 +9,13 @@ use cell::ColumnType;
 use common::Refusal;
 
 // The integers that a column allows: the least and the largest, or any.
-#[derive(Drop)]
+#[derive(Clone, Copy)]
 pub enum ValueRange {
     Any,
     Within { min: i32, max: i32 },
 }
 
-#[derive(Drop)]
+#[derive(Clone, Copy)]
 pub struct Column {
     pub coltype: ColumnType,
     pub is_localizable: bool,
@@ -24,7 +24,7 @@ pub struct Column {
     pub value_range: ValueRange,
 }
 
-#[derive(Drop)]
+#[derive(Clone, Copy)]
 pub struct ColumnBuilder {
     pub is_localizable: bool,
     pub is_nullable: bool,
@@ -32,13 +32,13 @@ pub struct ColumnBuilder {
     pub value_range: ValueRange,
 }
 
-#[derive(Drop)]
+#[derive(Clone, Copy)]
 pub enum ColumnMade {
     Made(Column),
     Refused(Refusal),
 }
 
-#[derive(Drop)]
+#[derive(Clone, Copy)]
 pub enum Bitfield {
     Bits(i32),
     Refused(Refusal),

@@ -8,7 +8,7 @@ use common::sizes::{MAX_COLUMNS, MAX_ROWS};
 use order::Fits;
 
 // `rows` cells, the first at `column`, each `step` after the one before.
-#[derive(Drop)]
+#[derive(Clone, Copy)]
 pub struct Stride {
     pub column: usize,
     pub step: usize,

@@ -5,11 +5,11 @@ ghost use Rattle.common.specs.Refs.{made_as, reference};
 
 use crate::refusal::Refusal;
 
-#[derive(Drop)]
+#[derive(Clone, Copy)]
 pub struct StringRef(pub i32);
 
 // What the checked maker answers.
-#[derive(Drop)]
+#[derive(Clone, Copy)]
 pub enum Made {
     Ref(StringRef),
     Refused(Refusal),

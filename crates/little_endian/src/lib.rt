@@ -11,7 +11,7 @@ use common::Refusal;
 const MAX_WIDTH: usize = 4;
 
 // What a writing of bytes answers, here and in the layers of the pool: how many were written, or why none.
-#[derive(Drop)]
+#[derive(Clone, Copy)]
 pub enum Written {
     Bytes(usize),
     Refused(Refusal),

@@ -95,7 +95,8 @@ pub(crate) fn copied(part: &[u8], out: &mut [u8]) -> Count
     if out.len() < part.len() {
         return refused_count(Refusal::OutputRoom);
     }
-    let value = bytes::copy(part, out);
+    let value = part.len();
+    out[..value].copy_from_slice(part);
     Count {
         refused: none(),
         value,

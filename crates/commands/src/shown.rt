@@ -1,6 +1,11 @@
 // Answers as the command language writes them, to a writer. What writes answers nothing but the writer's error, and leaves what it was
 // lent.
-ghost use Rattle.std.specs.Prelude.{◌≡◌, ◌≤◌, ◌<◌, IfOk};
+ghost use Rattle.std.specs.Prelude.{◌≡◌, ◌≤◌, ◌<◌, [], ◌∷◌, ◌++◌, IfOk, OnOk, decimal};
+ghost use Rattle.std.specs.Io.KnownBytes.{Appends};
+ghost use Rattle.std.specs.Fmt.{signed_decimal};
+ghost use Rattle.commands.specs.Shown.{cell_shown, is_panic, spaced, refused_shown};
+ghost use Rattle.common.specs.Refusals.{number_of, where_of};
+ghost use Rattle.common.specs.Choice.{if◌then◌else◌};
 ghost use Rattle.commands.specs.Words.{is_long_lem};
 
 use crate::numbers;
@@ -9,19 +14,22 @@ use std::io;
 use std::io::Write;
 
 pub fn say<W: Write>(w: &mut W, words: &[u8]) -> io::Result<()>
-    ensures { IfOk result (λ u. u ≡ tt) }
+    ensures answers { IfOk result (λ u. u ≡ tt) }
+    ensures written { OnOk result (Appends (W.contents w.old) (W.contents w.new) words.now) }
 {
     w.write_all(words)
 }
 
 pub fn number<W: Write>(w: &mut W, n: usize) -> io::Result<()>
-    ensures { IfOk result (λ u. u ≡ tt) }
+    ensures answers { IfOk result (λ u. u ≡ tt) }
+    ensures written { OnOk result (Appends (W.contents w.old) (W.contents w.new) (decimal n)) }
 {
     write!(w, "{n}")
 }
 
 pub fn flag<W: Write>(w: &mut W, on: bool) -> io::Result<()>
-    ensures { IfOk result (λ u. u ≡ tt) }
+    ensures answers { IfOk result (λ u. u ≡ tt) }
+    ensures written { OnOk result (Appends (W.contents w.old) (W.contents w.new) ((if on then 49 else 48) ∷ [])) }
 {
     if on {
         return say(w, b"1");
@@ -95,7 +103,8 @@ pub fn is_long(items: usize, same: bool) -> bool
 
 // The mark of a repetition.
 pub fn times<W: Write>(w: &mut W, n: usize) -> io::Result<()>
-    ensures { IfOk result (λ u. u ≡ tt) }
+    ensures answers { IfOk result (λ u. u ≡ tt) }
+    ensures written { OnOk result (Appends (W.contents w.old) (W.contents w.new) (42 ∷ decimal n)) }
 {
     say(w, b"*")?;
     number(w, n)
@@ -140,14 +149,17 @@ pub fn bytes<W: Write>(w: &mut W, list: &[u8]) -> io::Result<()>
     crate::shown::list(w, list, Form::Byte)
 }
 
-fn marked<W: Write>(w: &mut W, mark: &[u8], n: i32) -> io::Result<()> {
+fn marked<W: Write>(w: &mut W, mark: &[u8], n: i32) -> io::Result<()>
+    ensures { OnOk result (Appends (W.contents w.old) (W.contents w.new) (mark.now ++ signed_decimal n)) }
+{
     say(w, mark)?;
     numbers::show(w, n)
 }
 
 // A cell as it is handed over: its kind and its number.
 pub fn cell<W: Write>(w: &mut W, kind: u8, number: i32) -> io::Result<()>
-    ensures { IfOk result (λ u. u ≡ tt) }
+    ensures answers { IfOk result (λ u. u ≡ tt) }
+    ensures written { OnOk result (Appends (W.contents w.old) (W.contents w.new) (cell_shown kind number)) }
 {
     match kind {
         0 => say(w, b"n"),
@@ -163,7 +175,9 @@ pub fn cell<W: Write>(w: &mut W, kind: u8, number: i32) -> io::Result<()>
 }
 
 // The crate panics where it gives 9 to 12 and 15.
-fn panics(n: u32) -> bool {
+fn panics(n: u32) -> bool
+    ensures { result ≡ is_panic n }
+{
     match n {
         9..=12 => true,
         15 => true,
@@ -171,13 +185,16 @@ fn panics(n: u32) -> bool {
     }
 }
 
-fn spaced<W: Write>(w: &mut W, n: usize) -> io::Result<()> {
+fn spaced<W: Write>(w: &mut W, n: usize) -> io::Result<()>
+    ensures { OnOk result (Appends (W.contents w.old) (W.contents w.new) (spaced n)) }
+{
     say(w, b" ")?;
     number(w, n)
 }
 
 pub fn refused<W: Write>(w: &mut W, why: Refusal) -> io::Result<()>
-    ensures { IfOk result (λ u. u ≡ tt) }
+    ensures answers { IfOk result (λ u. u ≡ tt) }
+    ensures written { OnOk result (Appends (W.contents w.old) (W.contents w.new) (refused_shown (number_of why) (where_of why))) }
 {
     let n = why.number();
     if panics(n) {

@@ -1,5 +1,6 @@
 // Rooms of other sizes: they keep what they held as far as it fits, and new places hold 0xEE in every byte.
-ghost use Rattle.std.specs.Prelude.{◌≡◌, IfOk};
+ghost use Rattle.std.specs.Prelude.{◌≡◌, IfOk, OnOk, codes};
+ghost use Rattle.std.specs.Io.KnownBytes.{Appends};
 
 use crate::{ALL, Desk};
 use commands::lists::is_none;
@@ -69,7 +70,8 @@ pub fn lend<W: Write>(
     counts: &mut [u16],
     text: &mut [u8],
 ) -> io::Result<Desk>
-    ensures { IfOk result (λ d. (d.pool ≡ desk.pool) × (d.places ≡ desk.places) × (d.left ≡ desk.left) × (d.width ≡ desk.width)) }
+    ensures answers { IfOk result (λ d. (d.pool ≡ desk.pool) × (d.places ≡ desk.places) × (d.left ≡ desk.left) × (d.width ≡ desk.width)) }
+    ensures written { OnOk result (Appends (W.contents w.old) (W.contents w.new) (codes "ok")) }
 {
     let lent = sized(s, at, desk);
     cut_lengths(lengths, lent.lengths);

@@ -6,7 +6,8 @@ pub mod held;
 pub mod hold;
 pub mod lend;
 
-ghost use Rattle.std.specs.Prelude.{◌≡◌, IfOk};
+ghost use Rattle.std.specs.Prelude.{◌≡◌, IfOk, OnOk, codes};
+ghost use Rattle.std.specs.Io.KnownBytes.{Appends};
 ghost use Rattle.common.specs.Choice.{if◌then◌else◌, ◌=?◌};
 ghost use Rattle.commands.specs.Words.{is_none, count_at_lem};
 
@@ -84,7 +85,8 @@ impl Desk {
 
 // `out N`, `out -`
 pub fn out<W: Write>(w: &mut W, s: &[u8], at: usize, mut desk: Desk) -> io::Result<Desk>
-    ensures { IfOk result (λ d. (d.places ≡ (if is_none s.now at then 4294967295 else count_at_lem s.now at)) × (d.pool ≡ desk.pool) × (d.lengths ≡ desk.lengths) × (d.counts ≡ desk.counts) × (d.text ≡ desk.text) × (d.left ≡ desk.left) × (d.width ≡ desk.width)) }
+    ensures answers { IfOk result (λ d. (d.places ≡ (if is_none s.now at then 4294967295 else count_at_lem s.now at)) × (d.pool ≡ desk.pool) × (d.lengths ≡ desk.lengths) × (d.counts ≡ desk.counts) × (d.text ≡ desk.text) × (d.left ≡ desk.left) × (d.width ≡ desk.width)) }
+    ensures written { OnOk result (Appends (W.contents w.old) (W.contents w.new) (codes "ok")) }
 {
     shown::say(w, b"ok")?;
     if is_none(s, at) {
@@ -98,7 +100,8 @@ pub fn out<W: Write>(w: &mut W, s: &[u8], at: usize, mut desk: Desk) -> io::Resu
 
 // `pool ENTRIES LONG CP`
 pub fn pool<W: Write>(w: &mut W, s: &[u8], at: usize, desk: Desk) -> io::Result<Desk>
-    ensures { IfOk result (λ d. (d.lengths ≡ desk.lengths) × (d.counts ≡ desk.counts) × (d.text ≡ desk.text) × (d.places ≡ desk.places) × (d.left ≡ desk.left) × (d.width ≡ desk.width)) }
+    ensures answers { IfOk result (λ d. (d.lengths ≡ desk.lengths) × (d.counts ≡ desk.counts) × (d.text ≡ desk.text) × (d.places ≡ desk.places) × (d.left ≡ desk.left) × (d.width ≡ desk.width)) }
+    ensures written { OnOk result (Appends (W.contents w.old) (W.contents w.new) (codes "ok")) }
 {
     let long = next(s, at);
     shown::say(w, b"ok")?;

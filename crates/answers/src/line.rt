@@ -7,6 +7,8 @@ use pool_commands::{
     COUNT, DROP, LOAD, NEW, PAGE, STATE, SUM, TAKE, TAKE_DEFAULT, WDATA, WPOOL, change,
 };
 use room_commands::Desk;
+use std::io;
+use std::io::Write;
 use value_commands::{CREATE, CREATE_DEFAULT, REMOVE, SHOW, VALUE};
 
 // Commands, each the bytes of its word as one number, the first byte the highest.
@@ -67,25 +69,33 @@ fn word(s: &[u8], at: usize) -> u64 {
 }
 
 // The commands that no pool is lent to.
-fn plain(word: u64, s: &[u8], at: usize, desk: Desk, out: &mut [u8]) -> Desk {
+fn plain<W: Write>(
+    w: &mut W,
+    word: u64,
+    s: &[u8],
+    at: usize,
+    desk: Desk,
+    out: &mut [u8],
+) -> io::Result<Desk> {
     match word {
-        ENC | DEC => return name_commands::changed(word == ENC, s, at, desk, out),
-        OUT => return room_commands::out(s, at, desk),
-        POOL => return room_commands::pool(s, at, desk),
-        READ => return row_commands::read(s, at, desk, out),
-        WRITE => return table_commands::write(s, at, desk, out),
-        VALID => name_commands::is_valid(s, at),
-        REF => name_commands::reference(s, at),
-        PLACE => row_commands::place(s, at),
-        COL => table_commands::columns::made(s, at),
-        CHECK => table_commands::columns::checked(s, at),
-        _ => shown::say(b"bad"),
+        ENC | DEC => return name_commands::changed(w, word == ENC, s, at, desk, out),
+        OUT => return room_commands::out(w, s, at, desk),
+        POOL => return room_commands::pool(w, s, at, desk),
+        READ => return row_commands::read(w, s, at, desk, out),
+        WRITE => return table_commands::write(w, s, at, desk, out),
+        VALID => name_commands::is_valid(w, s, at)?,
+        REF => name_commands::reference(w, s, at)?,
+        PLACE => row_commands::place(w, s, at)?,
+        COL => table_commands::columns::made(w, s, at)?,
+        CHECK => table_commands::columns::checked(w, s, at)?,
+        _ => shown::say(w, b"bad")?,
     }
-    desk
+    Ok(desk)
 }
 
 // The rooms are those that are lent.
-fn lent(
+fn lent<W: Write>(
+    w: &mut W,
     s: &[u8],
     line: usize,
     desk: Desk,
@@ -93,35 +103,36 @@ fn lent(
     counts: &mut [u16],
     text: &mut [u8],
     out: &mut [u8],
-) -> Desk {
+) -> io::Result<Desk> {
     let word = word(s, line);
     let at = next(s, line);
     match word {
-        LOAD | TAKE | TAKE_DEFAULT | DROP => change(word, s, at, desk, lengths, counts, text),
+        LOAD | TAKE | TAKE_DEFAULT | DROP => change(w, word, s, at, desk, lengths, counts, text),
         NEW | PAGE | COUNT | STATE | SUM | WPOOL | WDATA => {
-            pool_commands::read(word, s, at, desk, lengths, counts, text, out)
+            pool_commands::read(w, word, s, at, desk, lengths, counts, text, out)
         }
         CREATE | CREATE_DEFAULT | REMOVE | VALUE => {
-            value_commands::answer(word, s, at, desk, lengths, counts, text, out)
+            value_commands::answer(w, word, s, at, desk, lengths, counts, text, out)
         }
-        SHOW => value_commands::show(s, at, desk, lengths, counts, text, out),
+        SHOW => value_commands::show(w, s, at, desk, lengths, counts, text, out),
         ROWS => {
-            row_commands::rows(s, at, desk.pool, lengths, counts, text);
-            desk
+            row_commands::rows(w, s, at, desk.pool, lengths, counts, text)?;
+            Ok(desk)
         }
         HOLD => {
-            room_commands::hold::hold(s, at, lengths, counts, text);
-            desk
+            room_commands::hold::hold(w, s, at, lengths, counts, text)?;
+            Ok(desk)
         }
         HELD => {
-            room_commands::held::held(s, line, desk, lengths, counts, text, out);
-            desk
+            room_commands::held::held(w, s, line, desk, lengths, counts, text, out)?;
+            Ok(desk)
         }
-        _ => plain(word, s, at, desk, out),
+        _ => plain(w, word, s, at, desk, out),
     }
 }
 
-pub(crate) fn answer(
+pub(crate) fn answer<W: Write>(
+    w: &mut W,
     s: &[u8],
     at: usize,
     desk: Desk,
@@ -129,14 +140,15 @@ pub(crate) fn answer(
     counts: &mut [u16],
     text: &mut [u8],
     out: &mut [u8],
-) -> Desk {
+) -> io::Result<Desk> {
     if word(s, at) == LEND {
-        return room_commands::lend::lend(s, next(s, at), desk, lengths, counts, text);
+        return room_commands::lend::lend(w, s, next(s, at), desk, lengths, counts, text);
     }
     let l = places::lengths(lengths, desk.lengths);
     let c = places::units(counts, desk.counts);
     let t = places::bytes(text, desk.text);
     lent(
+        w,
         s,
         at,
         desk,

@@ -7,9 +7,12 @@ mod names;
 mod pools;
 mod said;
 
-fn main() {
-    names::cases();
-    cells::cases();
-    pools::cases();
-    cells::case_m();
+use std::io;
+
+fn main(rt: HostRuntime) -> io::Result<()> {
+    let mut w = io::writer(&rt);
+    names::cases(&mut w)?;
+    cells::cases(&mut w)?;
+    pools::cases(&mut w)?;
+    cells::case_m(&mut w)
 }

@@ -1,17 +1,18 @@
 // Words, numbers, bytes, units and refusals, as document 01 writes them.
 use common::{Place, Refusal};
-use libc::STDOUT_FILENO;
+use std::io;
+use std::io::Write;
 
-pub(crate) fn words(s: &[u8]) {
-    io::write_all(STDOUT_FILENO, s);
+pub(crate) fn words<W: Write>(w: &mut W, s: &[u8]) -> io::Result<()> {
+    w.write_all(s)
 }
 
-pub(crate) fn newline() {
-    words(b"\n");
+pub(crate) fn newline<W: Write>(w: &mut W) -> io::Result<()> {
+    words(w, b"\n")
 }
 
-pub(crate) fn number(n: u64) {
-    io::print_decimal(STDOUT_FILENO, n);
+pub(crate) fn number<W: Write>(w: &mut W, n: u64) -> io::Result<()> {
+    write!(w, "{n}")
 }
 
 fn glyph(n: u8) -> u8 {
@@ -24,44 +25,46 @@ fn glyph(n: u8) -> u8 {
     }
 }
 
-fn byte(b: u8) {
+fn byte<W: Write>(w: &mut W, b: u8) -> io::Result<()> {
     let two = [glyph(b / 16), glyph(b % 16)];
-    words(&two);
+    words(w, &two)
 }
 
 // The byte at a place, after a blank; nothing past the end.
-pub(crate) fn byte_at(s: &[u8], i: usize) {
+pub(crate) fn byte_at<W: Write>(w: &mut W, s: &[u8], i: usize) -> io::Result<()> {
     if i < s.len() {
-        words(b" ");
-        byte(s[i]);
+        words(w, b" ")?;
+        byte(w, s[i])?;
     }
+    Ok(())
 }
 
-fn unit(u: u16) {
-    words(b" ");
-    byte((u / 256) as u8);
-    byte((u % 256) as u8);
+fn unit<W: Write>(w: &mut W, u: u16) -> io::Result<()> {
+    words(w, b" ")?;
+    byte(w, (u / 256) as u8)?;
+    byte(w, (u % 256) as u8)
 }
 
-pub(crate) fn unit_at(s: &[u16], i: usize) {
+pub(crate) fn unit_at<W: Write>(w: &mut W, s: &[u16], i: usize) -> io::Result<()> {
     if i < s.len() {
-        unit(s[i]);
+        unit(w, s[i])?;
     }
+    Ok(())
 }
 
-fn place(p: Place) {
+fn place<W: Write>(w: &mut W, p: Place) -> io::Result<()> {
     match p {
-        Place::Nowhere => {}
+        Place::Nowhere => Ok(()),
         Place::Column(c) => {
-            words(b" at column ");
-            number(c as u64);
+            words(w, b" at column ")?;
+            number(w, c as u64)
         }
-        Place::Cell { .. } => words(b" at a cell"),
+        Place::Cell { .. } => words(w, b" at a cell"),
     }
 }
 
 // A refusal's number, and its place where it has one.
-pub(crate) fn reason(r: Refusal) {
-    number(r.number() as u64);
-    place(r.place());
+pub(crate) fn reason<W: Write>(w: &mut W, r: Refusal) -> io::Result<()> {
+    number(w, r.number() as u64)?;
+    place(w, r.place())
 }

@@ -6,7 +6,7 @@ use crate::numbers;
 use crate::words::{ITEM, KIND, TIMES, WORD, after, byte, end_of, times_at};
 
 // Where an item stands, and how often from here on. Past the end of the word there is none.
-#[derive(Drop)]
+#[derive(Clone, Copy)]
 pub struct Item {
     pub at: usize,
     pub left: u64,
@@ -66,7 +66,7 @@ pub fn nth(s: &[u8], at: usize, n: usize) -> usize {
 }
 
 // A cell as it is handed over.
-#[derive(Drop)]
+#[derive(Clone, Copy)]
 pub struct Cell {
     pub kind: u8,
     pub number: i32,

@@ -1,10 +1,13 @@
 // Signed numbers of the command language, by way of the unsigned: n plus 2,147,483,648.
-ghost use Rattle.std.specs.Prelude.{◌≡◌, ◌<◌};
+ghost use Rattle.std.specs.Prelude.{◌≡◌, ◌<◌, IfOk, OnOk};
+ghost use Rattle.std.specs.Io.KnownBytes.{Appends};
+ghost use Rattle.std.specs.Fmt.{signed_decimal};
 ghost use Rattle.commands.specs.Words.{count_at_lem};
 ghost use Rattle.cell.specs.inner.Signed.{biased, unbiased};
 
-use crate::shown;
 use crate::words::{after, byte, number_at};
+use std::io;
+use std::io::Write;
 
 fn bias(n: i32) -> u64
     ensures { result ≡ biased 2147483648 n }
@@ -46,16 +49,11 @@ pub fn count_at(s: &[u8], at: usize) -> u32
     n as u32
 }
 
-pub fn show(n: i32)
-    ensures { result ≡ tt }
+pub fn show<W: Write>(w: &mut W, n: i32) -> io::Result<()>
+    ensures answers { IfOk result (λ u. u ≡ tt) }
+    ensures written { OnOk result (Appends (W.contents w.old) (W.contents w.new) (signed_decimal n)) }
 {
-    let u = bias(n);
-    if u < 2147483648 {
-        shown::say(b"-");
-        shown::number((2147483648 - u) as usize);
-        return;
-    }
-    shown::number((u - 2147483648) as usize);
+    write!(w, "{n}")
 }
 
 // The 32 bits of a signed number.

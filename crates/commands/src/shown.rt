@@ -1,36 +1,44 @@
-// Answers as the command language writes them. What is written no contract can say; what writes answers nothing, and leaves what it
-// was lent.
-ghost use Rattle.std.specs.Prelude.{◌≡◌, ◌≤◌, ◌<◌};
+// Answers as the command language writes them, to a writer. What writes answers nothing but the writer's error, and leaves what it was
+// lent.
+ghost use Rattle.std.specs.Prelude.{◌≡◌, ◌≤◌, ◌<◌, [], ◌∷◌, ◌++◌, IfOk, OnOk, decimal};
+ghost use Rattle.std.specs.Io.KnownBytes.{Appends};
+ghost use Rattle.std.specs.Fmt.{signed_decimal};
+ghost use Rattle.commands.specs.Shown.{cell_shown, is_panic, spaced, refused_shown};
+ghost use Rattle.common.specs.Refusals.{number_of, where_of};
+ghost use Rattle.common.specs.Choice.{if◌then◌else◌};
 ghost use Rattle.commands.specs.Words.{is_long_lem};
 
 use crate::numbers;
 use common::{Place, Refusal};
-use libc::STDOUT_FILENO;
+use std::io;
+use std::io::Write;
 
-pub fn say(words: &[u8])
-    ensures { result ≡ tt }
+pub fn say<W: Write>(w: &mut W, words: &[u8]) -> io::Result<()>
+    ensures answers { IfOk result (λ u. u ≡ tt) }
+    ensures written { OnOk result (Appends (W.contents w.old) (W.contents w.new) words.now) }
 {
-    io::write_all(STDOUT_FILENO, words);
+    w.write_all(words)
 }
 
-pub fn number(n: usize)
-    ensures { result ≡ tt }
+pub fn number<W: Write>(w: &mut W, n: usize) -> io::Result<()>
+    ensures answers { IfOk result (λ u. u ≡ tt) }
+    ensures written { OnOk result (Appends (W.contents w.old) (W.contents w.new) (decimal n)) }
 {
-    io::print_decimal(STDOUT_FILENO, n as u64);
+    write!(w, "{n}")
 }
 
-pub fn flag(on: bool)
-    ensures { result ≡ tt }
+pub fn flag<W: Write>(w: &mut W, on: bool) -> io::Result<()>
+    ensures answers { IfOk result (λ u. u ≡ tt) }
+    ensures written { OnOk result (Appends (W.contents w.old) (W.contents w.new) ((if on then 49 else 48) ∷ [])) }
 {
     if on {
-        say(b"1");
-        return;
+        return say(w, b"1");
     }
-    say(b"0");
+    say(w, b"0")
 }
 
 // What a list has in its bytes, the low byte of each first.
-#[derive(Drop)]
+#[derive(Clone, Copy)]
 pub enum Form {
     Byte,
     Unit,
@@ -45,27 +53,30 @@ fn width(form: Form) -> usize
     }
 }
 
-fn item(list: &[u8], at: usize, width: usize)
+// Two hexadecimal digits for each byte, the high byte first.
+fn item<W: Write>(w: &mut W, list: &[u8], at: usize, width: usize) -> io::Result<()>
     requires { width ≤ 2 }
 {
-    io::print_hex(
-        STDOUT_FILENO,
-        little_endian::read(list, at, width) as u64,
-        2 * width,
-    );
+    let n = little_endian::read(list, at, width);
+    match width {
+        0 => write!(w, "{n:x}"),
+        1 => write!(w, "{n:02x}"),
+        _ => write!(w, "{n:04x}"),
+    }
 }
 
-fn items(list: &[u8], width: usize)
+fn items<W: Write>(w: &mut W, list: &[u8], width: usize) -> io::Result<()>
     requires { (0 < width) × (width ≤ 2) }
 {
     let mut at = 0;
     while at < list.len() {
-        item(list, at, width);
+        item(w, list, at, width)?;
         if list.len() - at < width {
-            return;
+            return Ok(());
         }
         at += width;
     }
+    Ok(())
 }
 
 // Whether each place holds what the one before it holds.
@@ -91,78 +102,82 @@ pub fn is_long(items: usize, same: bool) -> bool
 }
 
 // The mark of a repetition.
-pub fn times(n: usize)
-    ensures { result ≡ tt }
+pub fn times<W: Write>(w: &mut W, n: usize) -> io::Result<()>
+    ensures answers { IfOk result (λ u. u ≡ tt) }
+    ensures written { OnOk result (Appends (W.contents w.old) (W.contents w.new) (42 ∷ decimal n)) }
 {
-    say(b"*");
-    number(n);
+    say(w, b"*")?;
+    number(w, n)
 }
 
 // `-` for none.
-pub fn list(list: &[u8], form: Form)
-    ensures { result ≡ tt }
+pub fn list<W: Write>(w: &mut W, list: &[u8], form: Form) -> io::Result<()>
+    ensures { IfOk result (λ u. u ≡ tt) }
 {
     if list.len() == 0 {
-        say(b"-");
-        return;
+        return say(w, b"-");
     }
     let wide = width(form);
     if is_long(list.len() / wide, same(list, wide)) {
-        item(list, 0, wide);
-        times(list.len() / wide);
-        return;
+        item(w, list, 0, wide)?;
+        return times(w, list.len() / wide);
     }
-    items(list, wide);
+    items(w, list, wide)
 }
 
 // Bytes as a part of a word.
-pub fn plain(list: &[u8])
-    ensures { result ≡ tt }
+pub fn plain<W: Write>(w: &mut W, list: &[u8]) -> io::Result<()>
+    ensures { IfOk result (λ u. u ≡ tt) }
 {
-    items(list, 1);
+    items(w, list, 1)
 }
 
 // A text of a value.
-pub fn text(list: &[u8])
-    ensures { result ≡ tt }
+pub fn text<W: Write>(w: &mut W, list: &[u8]) -> io::Result<()>
+    ensures { IfOk result (λ u. u ≡ tt) }
 {
-    say(b"t");
+    say(w, b"t")?;
     if list.len() == 0 {
-        say(b"-");
+        say(w, b"-")?;
     }
-    plain(list);
+    plain(w, list)
 }
 
-pub fn bytes(list: &[u8])
-    ensures { result ≡ tt }
+pub fn bytes<W: Write>(w: &mut W, list: &[u8]) -> io::Result<()>
+    ensures { IfOk result (λ u. u ≡ tt) }
 {
-    crate::shown::list(list, Form::Byte);
+    crate::shown::list(w, list, Form::Byte)
 }
 
-fn marked(mark: &[u8], n: i32) {
-    say(mark);
-    numbers::show(n);
+fn marked<W: Write>(w: &mut W, mark: &[u8], n: i32) -> io::Result<()>
+    ensures { OnOk result (Appends (W.contents w.old) (W.contents w.new) (mark.now ++ signed_decimal n)) }
+{
+    say(w, mark)?;
+    numbers::show(w, n)
 }
 
 // A cell as it is handed over: its kind and its number.
-pub fn cell(kind: u8, number: i32)
-    ensures { result ≡ tt }
+pub fn cell<W: Write>(w: &mut W, kind: u8, number: i32) -> io::Result<()>
+    ensures answers { IfOk result (λ u. u ≡ tt) }
+    ensures written { OnOk result (Appends (W.contents w.old) (W.contents w.new) (cell_shown kind number)) }
 {
     match kind {
-        0 => say(b"n"),
-        1 => marked(b"i", number),
-        2 => marked(b"s", number),
-        3 => say(b"b"),
+        0 => say(w, b"n"),
+        1 => marked(w, b"i", number),
+        2 => marked(w, b"s", number),
+        3 => say(w, b"b"),
         _ => {
-            say(b"k");
-            crate::shown::number(kind as usize);
-            marked(b":", number);
+            say(w, b"k")?;
+            crate::shown::number(w, kind as usize)?;
+            marked(w, b":", number)
         }
     }
 }
 
 // The crate panics where it gives 9 to 12 and 15.
-fn panics(n: u32) -> bool {
+fn panics(n: u32) -> bool
+    ensures { result ≡ is_panic n }
+{
     match n {
         9..=12 => true,
         15 => true,
@@ -170,27 +185,30 @@ fn panics(n: u32) -> bool {
     }
 }
 
-fn spaced(n: usize) {
-    say(b" ");
-    number(n);
+fn spaced<W: Write>(w: &mut W, n: usize) -> io::Result<()>
+    ensures { OnOk result (Appends (W.contents w.old) (W.contents w.new) (spaced n)) }
+{
+    say(w, b" ")?;
+    number(w, n)
 }
 
-pub fn refused(why: Refusal)
-    ensures { result ≡ tt }
+pub fn refused<W: Write>(w: &mut W, why: Refusal) -> io::Result<()>
+    ensures answers { IfOk result (λ u. u ≡ tt) }
+    ensures written { OnOk result (Appends (W.contents w.old) (W.contents w.new) (refused_shown (number_of why) (where_of why))) }
 {
     let n = why.number();
     if panics(n) {
-        say(b"panic");
+        say(w, b"panic")?;
     } else {
-        say(b"error");
+        say(w, b"error")?;
     }
-    spaced(n as usize);
+    spaced(w, n as usize)?;
     match why.place() {
-        Place::Nowhere => {}
-        Place::Column(column) => spaced(column),
+        Place::Nowhere => Ok(()),
+        Place::Column(column) => spaced(w, column),
         Place::Cell { row, column } => {
-            spaced(column);
-            spaced(row);
+            spaced(w, column)?;
+            spaced(w, row)
         }
     }
 }

@@ -1,7 +1,7 @@
 // Commands on stream names, and on a reference number by itself.
 #![tactic(auto)]
 
-ghost use Rattle.std.specs.Prelude.{◌≡◌, ◌≤◌, length};
+ghost use Rattle.std.specs.Prelude.{◌≡◌, ◌≤◌, length, IfOk};
 
 use commands::shown::Form;
 use commands::words::{byte, front, next, product};
@@ -9,6 +9,8 @@ use commands::{kept, numbers, places, shown};
 use common::{Made, StringRef};
 use pool_commands::bytes_at;
 use room_commands::Desk;
+use std::io;
+use std::io::Write;
 use streamname::{Decoded, Encoded, Validity};
 
 fn wide(b: u8) -> u16
@@ -49,8 +51,8 @@ fn name_in(s: &[u8], at: usize, out: &mut [u16]) -> usize
 }
 
 // The first so many units of an output.
-fn show_units(out: &[u8], units: usize) {
-    shown::list(front(out, product(units, 2)), Form::Unit);
+fn show_units<W: Write>(w: &mut W, out: &[u8], units: usize) -> io::Result<()> {
+    shown::list(w, front(out, product(units, 2)), Form::Unit)
 }
 
 fn one_more(n: usize) -> usize {
@@ -60,20 +62,31 @@ fn one_more(n: usize) -> usize {
     n
 }
 
-fn encoded(name: &[u16], is_table: bool, units: &mut [u16], out: &mut [u8]) -> usize {
+fn encoded<W: Write>(
+    w: &mut W,
+    name: &[u16],
+    is_table: bool,
+    units: &mut [u16],
+    out: &mut [u8],
+) -> io::Result<usize> {
     let answer = streamname::encode(name, is_table, units);
     let left = kept::units(units, out);
     match answer {
         Encoded::Units(length) => {
-            shown::say(b"ok ");
-            show_units(out, length);
+            shown::say(w, b"ok ")?;
+            show_units(w, out, length)?;
         }
-        Encoded::Refused(why) => shown::refused(why),
+        Encoded::Refused(why) => shown::refused(w, why)?,
     }
-    left
+    Ok(left)
 }
 
-fn decoded(stored: &[u16], units: &mut [u16], out: &mut [u8]) -> usize {
+fn decoded<W: Write>(
+    w: &mut W,
+    stored: &[u16],
+    units: &mut [u16],
+    out: &mut [u8],
+) -> io::Result<usize> {
     let answer = streamname::decode(stored, units);
     let left = kept::units(units, out);
     match answer {
@@ -81,64 +94,71 @@ fn decoded(stored: &[u16], units: &mut [u16], out: &mut [u8]) -> usize {
             units: length,
             is_table,
         } => {
-            shown::say(b"ok ");
-            shown::flag(is_table);
-            shown::say(b" ");
-            show_units(out, length);
+            shown::say(w, b"ok ")?;
+            shown::flag(w, is_table)?;
+            shown::say(w, b" ")?;
+            show_units(w, out, length)?;
         }
-        Decoded::Refused(why) => shown::refused(why),
+        Decoded::Refused(why) => shown::refused(w, why)?,
     }
-    left
+    Ok(left)
 }
 
-fn valid(name: &[u16], is_table: bool) {
+fn valid<W: Write>(w: &mut W, name: &[u16], is_table: bool) -> io::Result<()> {
     let answer = streamname::is_valid(name, is_table);
     match answer {
-        Validity::Valid => shown::say(b"ok 1"),
-        Validity::Invalid => shown::say(b"ok 0"),
-        Validity::Refused(why) => shown::refused(why),
+        Validity::Valid => shown::say(w, b"ok 1"),
+        Validity::Invalid => shown::say(w, b"ok 0"),
+        Validity::Refused(why) => shown::refused(w, why),
     }
 }
 
 // `valid T UNITS`
-pub fn is_valid(s: &[u8], at: usize)
-    ensures { result ≡ tt }
+pub fn is_valid<W: Write>(w: &mut W, s: &[u8], at: usize) -> io::Result<()>
+    ensures { IfOk result (λ u. u ≡ tt) }
 {
     let mut name = name_room();
     let given = name_in(s, next(s, at), &mut name);
     let n = places::units(&name, given);
-    valid(&name[..n], byte(s, at) == b'1');
+    valid(w, &name[..n], byte(s, at) == b'1')
 }
 
 // `enc T UNITS`, `dec UNITS`
-pub fn changed(encodes: bool, s: &[u8], at: usize, desk: Desk, out: &mut [u8]) -> Desk {
+pub fn changed<W: Write>(
+    w: &mut W,
+    encodes: bool,
+    s: &[u8],
+    at: usize,
+    desk: Desk,
+    out: &mut [u8],
+) -> io::Result<Desk> {
     let mut name = name_room();
     let mut units = units_room();
     if encodes {
         let given = name_in(s, next(s, at), &mut name);
         let n = places::units(&name, given);
         let m = places::units(&units, desk.output(one_more(n)));
-        let left = encoded(&name[..n], byte(s, at) == b'1', &mut units[..m], out);
-        return desk.leaves(left, 2);
+        let left = encoded(w, &name[..n], byte(s, at) == b'1', &mut units[..m], out)?;
+        return Ok(desk.leaves(left, 2));
     }
     let given = name_in(s, at, &mut name);
     let n = places::units(&name, given);
     let m = places::units(&units, desk.output(product(n, 2)));
-    let left = decoded(&name[..n], &mut units[..m], out);
-    desk.leaves(left, 2)
+    let left = decoded(w, &name[..n], &mut units[..m], out)?;
+    Ok(desk.leaves(left, 2))
 }
 
 // `ref REF`
-pub fn reference(s: &[u8], at: usize)
-    ensures { result ≡ tt }
+pub fn reference<W: Write>(w: &mut W, s: &[u8], at: usize) -> io::Result<()>
+    ensures { IfOk result (λ u. u ≡ tt) }
 {
     let made = StringRef::new(numbers::signed_at(s, at));
     match made {
         Made::Ref(r) => {
-            shown::say(b"ok ");
-            numbers::show(r.0);
+            shown::say(w, b"ok ")?;
+            numbers::show(w, r.0)
         }
-        Made::Refused(why) => shown::refused(why),
+        Made::Refused(why) => shown::refused(w, why),
     }
 }
 

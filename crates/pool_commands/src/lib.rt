@@ -8,6 +8,8 @@ mod written;
 use commands::shown;
 use commands::words::bytes_in;
 use room_commands::Desk;
+use std::io;
+use std::io::Write;
 use stringpool::Pooled;
 
 // Commands, each the bytes of its word as one number, the first byte the highest.
@@ -35,7 +37,8 @@ pub const WPOOL: u64 = 0x77706f6f6c;
 pub const WDATA: u64 = 0x7764617461;
 
 // The commands that may change the rooms.
-pub fn change(
+pub fn change<W: Write>(
+    w: &mut W,
     word: u64,
     s: &[u8],
     at: usize,
@@ -43,16 +46,17 @@ pub fn change(
     lengths: &mut [u32],
     counts: &mut [u16],
     text: &mut [u8],
-) -> Desk {
+) -> io::Result<Desk> {
     match word {
-        LOAD => pools::load(s, at, desk, lengths, counts, text),
-        TAKE | TAKE_DEFAULT => pools::take(word == TAKE, s, at, desk, lengths, counts, text),
-        _ => pools::drop(s, at, desk, lengths, counts, text),
+        LOAD => pools::load(w, s, at, desk, lengths, counts, text),
+        TAKE | TAKE_DEFAULT => pools::take(w, word == TAKE, s, at, desk, lengths, counts, text),
+        _ => pools::drop(w, s, at, desk, lengths, counts, text),
     }
 }
 
 // The commands that only read the rooms, with the output that they leave.
-pub fn read(
+pub fn read<W: Write>(
+    w: &mut W,
     word: u64,
     s: &[u8],
     at: usize,
@@ -61,30 +65,30 @@ pub fn read(
     counts: &[u16],
     text: &[u8],
     out: &mut [u8],
-) -> Desk {
+) -> io::Result<Desk> {
     match word {
-        NEW => pools::new(s, at, desk),
-        PAGE => pools::page(s, at, desk, lengths, counts, text),
-        COUNT => pools::count(s, at, desk, lengths, counts, text),
+        NEW => pools::new(w, s, at, desk),
+        PAGE => pools::page(w, s, at, desk, lengths, counts, text),
+        COUNT => pools::count(w, s, at, desk, lengths, counts, text),
         STATE => {
-            pools::state(desk.pool);
-            desk
+            pools::state(w, desk.pool)?;
+            Ok(desk)
         }
-        SUM => written::sum(desk, lengths, counts, text, out),
-        _ => written::write(word == WPOOL, desk, lengths, counts, text, out),
+        SUM => written::sum(w, desk, lengths, counts, text, out),
+        _ => written::write(w, word == WPOOL, desk, lengths, counts, text, out),
     }
 }
 
 // The pool after a call that answers nothing else.
-pub fn pooled(answer: Pooled, desk: Desk) -> Desk {
+pub fn pooled<W: Write>(w: &mut W, answer: Pooled, desk: Desk) -> io::Result<Desk> {
     match answer {
         Pooled::Is(made) => {
-            shown::say(b"ok");
-            desk.with_pool(made)
+            shown::say(w, b"ok")?;
+            Ok(desk.with_pool(made))
         }
         Pooled::Refused(why) => {
-            shown::refused(why);
-            desk
+            shown::refused(w, why)?;
+            Ok(desk)
         }
     }
 }

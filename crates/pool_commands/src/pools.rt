@@ -3,44 +3,49 @@ use crate::{bytes_at, pooled};
 use commands::words::{front, next};
 use commands::{numbers, shown};
 use room_commands::Desk;
+use std::io;
+use std::io::Write;
 use stringpool::{Counted, Pooled, StringPool, Taken};
 
-pub(crate) fn state(pool: StringPool) {
-    shown::say(b"ok ");
-    shown::number(pool.codepage as usize);
-    shown::say(b" ");
-    shown::flag(pool.long_string_refs);
-    shown::say(b" ");
-    shown::number(pool.num_strings);
+pub(crate) fn state<W: Write>(w: &mut W, pool: StringPool) -> io::Result<()> {
+    shown::say(w, b"ok ")?;
+    shown::number(w, pool.codepage as usize)?;
+    shown::say(w, b" ")?;
+    shown::flag(w, pool.long_string_refs)?;
+    shown::say(w, b" ")?;
+    shown::number(w, pool.num_strings)
 }
 
-pub(crate) fn new(s: &[u8], at: usize, desk: Desk) -> Desk {
-    pooled(StringPool::new(numbers::count_at(s, at)), desk)
+pub(crate) fn new<W: Write>(w: &mut W, s: &[u8], at: usize, desk: Desk) -> io::Result<Desk> {
+    pooled(w, StringPool::new(numbers::count_at(s, at)), desk)
 }
 
-pub(crate) fn page(
+pub(crate) fn page<W: Write>(
+    w: &mut W,
     s: &[u8],
     at: usize,
     desk: Desk,
     lengths: &[u32],
     counts: &[u16],
     text: &[u8],
-) -> Desk {
+) -> io::Result<Desk> {
     let pool = desk.pool;
     pooled(
+        w,
         pool.set_codepage(lengths, counts, text, numbers::count_at(s, at)),
         desk,
     )
 }
 
-pub(crate) fn load(
+pub(crate) fn load<W: Write>(
+    w: &mut W,
     s: &[u8],
     at: usize,
     desk: Desk,
     lengths: &mut [u32],
     counts: &mut [u16],
     text: &mut [u8],
-) -> Desk {
+) -> io::Result<Desk> {
     let mut stream = stream_room();
     let mut data = text_room();
     let n = bytes_at(s, at, &mut stream);
@@ -48,12 +53,12 @@ pub(crate) fn load(
     let answer = StringPool::load(front(&stream, n), front(&data, m), lengths, counts, text);
     match answer {
         Pooled::Is(made) => {
-            state(made);
-            desk.with_pool(made)
+            state(w, made)?;
+            Ok(desk.with_pool(made))
         }
         Pooled::Refused(why) => {
-            shown::refused(why);
-            desk
+            shown::refused(w, why)?;
+            Ok(desk)
         }
     }
 }
@@ -74,7 +79,8 @@ fn taken(
 }
 
 // `take`, or `take-default`
-pub(crate) fn take(
+pub(crate) fn take<W: Write>(
+    w: &mut W,
     first: bool,
     s: &[u8],
     at: usize,
@@ -82,57 +88,60 @@ pub(crate) fn take(
     lengths: &mut [u32],
     counts: &mut [u16],
     text: &mut [u8],
-) -> Desk {
+) -> io::Result<Desk> {
     let mut new = text_room();
     let n = bytes_at(s, at, &mut new);
     let pool = desk.pool;
     let answer = taken(first, pool, lengths, counts, text, front(&new, n));
     match answer {
         Taken::Ref(taken, after) => {
-            shown::say(b"ok ");
-            numbers::show(taken.0);
-            desk.with_pool(after)
+            shown::say(w, b"ok ")?;
+            numbers::show(w, taken.0)?;
+            Ok(desk.with_pool(after))
         }
         Taken::Refused(why) => {
-            shown::refused(why);
-            desk
+            shown::refused(w, why)?;
+            Ok(desk)
         }
     }
 }
 
-pub(crate) fn drop(
+pub(crate) fn drop<W: Write>(
+    w: &mut W,
     s: &[u8],
     at: usize,
     desk: Desk,
     lengths: &mut [u32],
     counts: &mut [u16],
     text: &mut [u8],
-) -> Desk {
+) -> io::Result<Desk> {
     let pool = desk.pool;
     pooled(
+        w,
         pool.decref(lengths, counts, text, numbers::signed_at(s, at)),
         desk,
     )
 }
 
-pub(crate) fn count(
+pub(crate) fn count<W: Write>(
+    w: &mut W,
     s: &[u8],
     at: usize,
     desk: Desk,
     lengths: &[u32],
     counts: &[u16],
     text: &[u8],
-) -> Desk {
+) -> io::Result<Desk> {
     let pool = desk.pool;
     let answer = pool.refcount(lengths, counts, text, numbers::signed_at(s, at));
     match answer {
         Counted::Is(n) => {
-            shown::say(b"ok ");
-            shown::number(n as usize);
+            shown::say(w, b"ok ")?;
+            shown::number(w, n as usize)?;
         }
-        Counted::Refused(why) => shown::refused(why),
+        Counted::Refused(why) => shown::refused(w, why)?,
     }
-    desk
+    Ok(desk)
 }
 
 // An array that a call gives back is known by its size, and not place by place.

@@ -1,10 +1,12 @@
 // What the rooms and the last output hold.
-ghost use Rattle.std.specs.Prelude.{◌≡◌, ◌≤◌};
+ghost use Rattle.std.specs.Prelude.{◌≡◌, ◌≤◌, IfOk};
 
 use crate::{ALL, Desk};
 use commands::numbers::count_at;
 use commands::words::{LINE, WORD, byte, end_of, front, next, product};
 use commands::{places, shown};
+use std::io;
+use std::io::Write;
 
 // Where the last `most` of `n` places start.
 fn start(n: usize, most: usize) -> usize
@@ -17,15 +19,15 @@ fn start(n: usize, most: usize) -> usize
 }
 
 // The number at place `i` of a list.
-fn length(i: usize, n: u32) {
+fn length<W: Write>(w: &mut W, i: usize, n: u32) -> io::Result<()> {
     if i > 0 {
-        shown::say(b",");
+        shown::say(w, b",")?;
     }
-    shown::number(n as usize);
+    shown::number(w, n as usize)
 }
 
-fn count(i: usize, n: u16) {
-    length(i, n as u32);
+fn count<W: Write>(w: &mut W, i: usize, n: u16) -> io::Result<()> {
+    length(w, i, n as u32)
 }
 
 fn same_lengths(room: &[u32]) -> bool {
@@ -39,25 +41,24 @@ fn same_lengths(room: &[u32]) -> bool {
     true
 }
 
-fn each_length(room: &[u32]) {
+fn each_length<W: Write>(w: &mut W, room: &[u32]) -> io::Result<()> {
     let mut i = 0;
     while i < room.len() {
-        length(i, room[i]);
+        length(w, i, room[i])?;
         i += 1;
     }
+    Ok(())
 }
 
-fn lengths_out(room: &[u32]) {
+fn lengths_out<W: Write>(w: &mut W, room: &[u32]) -> io::Result<()> {
     if room.len() == 0 {
-        shown::say(b"-");
-        return;
+        return shown::say(w, b"-");
     }
     if shown::is_long(room.len(), same_lengths(room)) {
-        length(0, room[0]);
-        shown::times(room.len());
-        return;
+        length(w, 0, room[0])?;
+        return shown::times(w, room.len());
     }
-    each_length(room);
+    each_length(w, room)
 }
 
 fn same_counts(room: &[u16]) -> bool {
@@ -71,31 +72,30 @@ fn same_counts(room: &[u16]) -> bool {
     true
 }
 
-fn each_count(room: &[u16]) {
+fn each_count<W: Write>(w: &mut W, room: &[u16]) -> io::Result<()> {
     let mut i = 0;
     while i < room.len() {
-        count(i, room[i]);
+        count(w, i, room[i])?;
         i += 1;
     }
+    Ok(())
 }
 
-fn counts_out(room: &[u16]) {
+fn counts_out<W: Write>(w: &mut W, room: &[u16]) -> io::Result<()> {
     if room.len() == 0 {
-        shown::say(b"-");
-        return;
+        return shown::say(w, b"-");
     }
     if shown::is_long(room.len(), same_counts(room)) {
-        count(0, room[0]);
-        shown::times(room.len());
-        return;
+        count(w, 0, room[0])?;
+        return shown::times(w, room.len());
     }
-    each_count(room);
+    each_count(w, room)
 }
 
 // The last bytes of a list.
-fn last(list: &[u8], most: usize) {
+fn last<W: Write>(w: &mut W, list: &[u8], most: usize) -> io::Result<()> {
     let from = start(list.len(), most);
-    shown::bytes(&list[from..]);
+    shown::bytes(w, &list[from..])
 }
 
 fn one_byte(kinds: &[u8], numbers: &[u8]) -> bool {
@@ -109,37 +109,34 @@ fn one_byte(kinds: &[u8], numbers: &[u8]) -> bool {
 }
 
 // The kinds of cells, then their numbers, in one word.
-fn cells(kinds: &[u8], numbers: &[u8]) {
+fn cells<W: Write>(w: &mut W, kinds: &[u8], numbers: &[u8]) -> io::Result<()> {
     if kinds.len() == 0 {
-        shown::say(b"-");
-        return;
+        return shown::say(w, b"-");
     }
     let bytes = product(kinds.len(), 5);
     if shown::is_long(bytes, one_byte(kinds, numbers)) {
-        shown::plain(front(kinds, 1));
-        shown::times(bytes);
-        return;
+        shown::plain(w, front(kinds, 1))?;
+        return shown::times(w, bytes);
     }
-    shown::plain(kinds);
-    shown::plain(numbers);
+    shown::plain(w, kinds)?;
+    shown::plain(w, numbers)
 }
 
-fn last_cells(kinds: &[u8], numbers: &[u8], most: usize) {
+fn last_cells<W: Write>(w: &mut W, kinds: &[u8], numbers: &[u8], most: usize) -> io::Result<()> {
     let k = start(kinds.len(), most);
     let n = start(numbers.len(), product(most, 4));
-    cells(&kinds[k..], &numbers[n..]);
+    cells(w, &kinds[k..], &numbers[n..])
 }
 
-fn output(desk: Desk, out: &[u8], most: usize) {
+fn output<W: Write>(w: &mut W, desk: Desk, out: &[u8], most: usize) -> io::Result<()> {
     let left = desk.left;
     let n = places::bytes(out, left);
     if desk.width == 5 {
         let k = places::bytes(out, n / 5);
         let m = start(n, product(k, 4));
-        last_cells(&out[..k], &out[m..n], most);
-        return;
+        return last_cells(w, &out[..k], &out[m..n], most);
     }
-    last(&out[..n], product(most, desk.width as u64));
+    last(w, &out[..n], product(most, desk.width as u64))
 }
 
 fn most_at(s: &[u8], at: usize) -> usize {
@@ -150,7 +147,8 @@ fn most_at(s: &[u8], at: usize) -> usize {
 }
 
 // `held`, `held N`
-pub fn held(
+pub fn held<W: Write>(
+    w: &mut W,
     s: &[u8],
     at: usize,
     desk: Desk,
@@ -158,16 +156,16 @@ pub fn held(
     counts: &[u16],
     text: &[u8],
     out: &[u8],
-)
-    ensures { result ≡ tt }
+) -> io::Result<()>
+    ensures { IfOk result (λ u. u ≡ tt) }
 {
     let most = most_at(s, at);
-    shown::say(b"ok ");
-    lengths_out(&lengths[start(lengths.len(), most)..]);
-    shown::say(b" ");
-    counts_out(&counts[start(counts.len(), most)..]);
-    shown::say(b" ");
-    last(text, most);
-    shown::say(b" ");
-    output(desk, out, most);
+    shown::say(w, b"ok ")?;
+    lengths_out(w, &lengths[start(lengths.len(), most)..])?;
+    shown::say(w, b" ")?;
+    counts_out(w, &counts[start(counts.len(), most)..])?;
+    shown::say(w, b" ")?;
+    last(w, text, most)?;
+    shown::say(w, b" ")?;
+    output(w, desk, out, most)
 }

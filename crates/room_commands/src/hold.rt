@@ -1,9 +1,11 @@
 // The first places of a room hold what a command says.
-ghost use Rattle.std.specs.Prelude.{◌≡◌};
+ghost use Rattle.std.specs.Prelude.{◌≡◌, IfOk};
 
 use commands::numbers::count_at;
 use commands::words::{WORD, bytes_at, bytes_in, end_of, is, next, number_at};
 use commands::{lists, shown};
+use std::io;
+use std::io::Write;
 
 // Whether a list has at most `places` numbers, and none above `most`.
 fn fits(s: &[u8], at: usize, most: u64, places: usize) -> bool {
@@ -38,13 +40,12 @@ fn put_lengths(s: &[u8], at: usize, room: &mut [u32]) {
     }
 }
 
-fn hold_lengths(s: &[u8], at: usize, room: &mut [u32]) {
+fn hold_lengths<W: Write>(w: &mut W, s: &[u8], at: usize, room: &mut [u32]) -> io::Result<()> {
     if fits(s, at, 4_294_967_295, room.len()) {
         put_lengths(s, at, room);
-        shown::say(b"ok");
-        return;
+        return shown::say(w, b"ok");
     }
-    shown::say(b"bad");
+    shown::say(w, b"bad")
 }
 
 fn put_counts(s: &[u8], at: usize, room: &mut [u16]) {
@@ -62,39 +63,41 @@ fn put_counts(s: &[u8], at: usize, room: &mut [u16]) {
     }
 }
 
-fn hold_counts(s: &[u8], at: usize, room: &mut [u16]) {
+fn hold_counts<W: Write>(w: &mut W, s: &[u8], at: usize, room: &mut [u16]) -> io::Result<()> {
     if fits(s, at, 65_535, room.len()) {
         put_counts(s, at, room);
-        shown::say(b"ok");
-        return;
+        return shown::say(w, b"ok");
     }
-    shown::say(b"bad");
+    shown::say(w, b"bad")
 }
 
-fn hold_text(s: &[u8], at: usize, room: &mut [u8]) {
+fn hold_text<W: Write>(w: &mut W, s: &[u8], at: usize, room: &mut [u8]) -> io::Result<()> {
     if bytes_at(s, at) > room.len() {
-        shown::say(b"bad");
-        return;
+        return shown::say(w, b"bad");
     }
     bytes_in(s, at, room);
-    shown::say(b"ok");
+    shown::say(w, b"ok")
 }
 
 // `hold lengths NUMBERS`, `hold counts NUMBERS`, `hold text BYTES`
-pub fn hold(s: &[u8], at: usize, lengths: &mut [u32], counts: &mut [u16], text: &mut [u8])
-    ensures { result ≡ tt }
+pub fn hold<W: Write>(
+    w: &mut W,
+    s: &[u8],
+    at: usize,
+    lengths: &mut [u32],
+    counts: &mut [u16],
+    text: &mut [u8],
+) -> io::Result<()>
+    ensures { IfOk result (λ u. u ≡ tt) }
 {
     if is(s, at, b"lengths") {
-        hold_lengths(s, next(s, at), lengths);
-        return;
+        return hold_lengths(w, s, next(s, at), lengths);
     }
     if is(s, at, b"counts") {
-        hold_counts(s, next(s, at), counts);
-        return;
+        return hold_counts(w, s, next(s, at), counts);
     }
     if is(s, at, b"text") {
-        hold_text(s, next(s, at), text);
-        return;
+        return hold_text(w, s, next(s, at), text);
     }
-    shown::say(b"bad");
+    shown::say(w, b"bad")
 }

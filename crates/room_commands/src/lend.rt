@@ -1,11 +1,14 @@
 // Rooms of other sizes: they keep what they held as far as it fits, and new places hold 0xEE in every byte.
-ghost use Rattle.std.specs.Prelude.{◌≡◌};
+ghost use Rattle.std.specs.Prelude.{◌≡◌, IfOk, OnOk, codes};
+ghost use Rattle.std.specs.Io.KnownBytes.{Appends};
 
 use crate::{ALL, Desk};
 use commands::lists::is_none;
 use commands::numbers::count_at;
 use commands::shown;
 use commands::words::next;
+use std::io;
+use std::io::Write;
 
 const FILL_LENGTH: u32 = 0xEEEE_EEEE;
 
@@ -58,20 +61,22 @@ fn sized(s: &[u8], at: usize, mut desk: Desk) -> Desk
 }
 
 // `lend LENGTHS COUNTS BYTES`, `lend -`
-pub fn lend(
+pub fn lend<W: Write>(
+    w: &mut W,
     s: &[u8],
     at: usize,
     desk: Desk,
     lengths: &mut [u32],
     counts: &mut [u16],
     text: &mut [u8],
-) -> Desk
-    ensures { (result.pool ≡ desk.pool) × (result.places ≡ desk.places) × (result.left ≡ desk.left) × (result.width ≡ desk.width) }
+) -> io::Result<Desk>
+    ensures answers { IfOk result (λ d. (d.pool ≡ desk.pool) × (d.places ≡ desk.places) × (d.left ≡ desk.left) × (d.width ≡ desk.width)) }
+    ensures written { OnOk result (Appends (W.contents w.old) (W.contents w.new) (codes "ok")) }
 {
     let lent = sized(s, at, desk);
     cut_lengths(lengths, lent.lengths);
     cut_counts(counts, lent.counts);
     cut_text(text, lent.text);
-    shown::say(b"ok");
-    lent
+    shown::say(w, b"ok")?;
+    Ok(lent)
 }

@@ -6,7 +6,8 @@ pub mod held;
 pub mod hold;
 pub mod lend;
 
-ghost use Rattle.std.specs.Prelude.{◌≡◌};
+ghost use Rattle.std.specs.Prelude.{◌≡◌, IfOk, OnOk, codes};
+ghost use Rattle.std.specs.Io.KnownBytes.{Appends};
 ghost use Rattle.common.specs.Choice.{if◌then◌else◌, ◌=?◌};
 ghost use Rattle.commands.specs.Words.{is_none, count_at_lem};
 
@@ -14,13 +15,15 @@ use commands::lists::is_none;
 use commands::numbers::count_at;
 use commands::shown;
 use commands::words::{byte, next};
+use std::io;
+use std::io::Write;
 use stringpool::StringPool;
 
 // All places that there are, or as many as an output needs.
 pub const ALL: usize = 4_294_967_295;
 
 // What the commands have beside the arrays of the rooms and of the last output.
-#[derive(Drop)]
+#[derive(Clone, Copy)]
 pub struct Desk {
     pub pool: StringPool,
     // How many places of each room are lent.
@@ -81,28 +84,30 @@ impl Desk {
 }
 
 // `out N`, `out -`
-pub fn out(s: &[u8], at: usize, mut desk: Desk) -> Desk
-    ensures { (result.places ≡ (if is_none s.now at then 4294967295 else count_at_lem s.now at)) × (result.pool ≡ desk.pool) × (result.lengths ≡ desk.lengths) × (result.counts ≡ desk.counts) × (result.text ≡ desk.text) × (result.left ≡ desk.left) × (result.width ≡ desk.width) }
+pub fn out<W: Write>(w: &mut W, s: &[u8], at: usize, mut desk: Desk) -> io::Result<Desk>
+    ensures answers { IfOk result (λ d. (d.places ≡ (if is_none s.now at then 4294967295 else count_at_lem s.now at)) × (d.pool ≡ desk.pool) × (d.lengths ≡ desk.lengths) × (d.counts ≡ desk.counts) × (d.text ≡ desk.text) × (d.left ≡ desk.left) × (d.width ≡ desk.width)) }
+    ensures written { OnOk result (Appends (W.contents w.old) (W.contents w.new) (codes "ok")) }
 {
-    shown::say(b"ok");
+    shown::say(w, b"ok")?;
     if is_none(s, at) {
         desk.places = ALL;
-        return desk;
+        return Ok(desk);
     }
     let places = count_at(s, at) as usize;
     desk.places = places;
-    desk
+    Ok(desk)
 }
 
 // `pool ENTRIES LONG CP`
-pub fn pool(s: &[u8], at: usize, desk: Desk) -> Desk
-    ensures { (result.lengths ≡ desk.lengths) × (result.counts ≡ desk.counts) × (result.text ≡ desk.text) × (result.places ≡ desk.places) × (result.left ≡ desk.left) × (result.width ≡ desk.width) }
+pub fn pool<W: Write>(w: &mut W, s: &[u8], at: usize, desk: Desk) -> io::Result<Desk>
+    ensures answers { IfOk result (λ d. (d.lengths ≡ desk.lengths) × (d.counts ≡ desk.counts) × (d.text ≡ desk.text) × (d.places ≡ desk.places) × (d.left ≡ desk.left) × (d.width ≡ desk.width)) }
+    ensures written { OnOk result (Appends (W.contents w.old) (W.contents w.new) (codes "ok")) }
 {
     let long = next(s, at);
-    shown::say(b"ok");
-    desk.with_pool(StringPool {
+    shown::say(w, b"ok")?;
+    Ok(desk.with_pool(StringPool {
         num_strings: count_at(s, at) as usize,
         long_string_refs: byte(s, long) == b'1',
         codepage: count_at(s, next(s, long)),
-    })
+    }))
 }

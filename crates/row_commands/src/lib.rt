@@ -1,7 +1,7 @@
 // Commands that read the rows of a table: all of them, the row reader's cells, and a cell by its place.
 #![tactic(auto)]
 
-ghost use Rattle.std.specs.Prelude.{◌≡◌, length};
+ghost use Rattle.std.specs.Prelude.{◌≡◌, length, IfOk};
 
 use cell::ValueRef;
 use commands::words::{bytes_in, front, next, number_at, product};
@@ -9,6 +9,8 @@ use commands::{kept, places, shown};
 use pool_values::Shown;
 use room_commands::Desk;
 use rows::NextCell;
+use std::io;
+use std::io::Write;
 use stringpool::StringPool;
 use table::{CellRead, Counted, Laid, Table};
 use table_commands::layouts::{laid, refused};
@@ -19,10 +21,11 @@ fn stream_room() -> [u8; 270000] {
     [0u8; 270000]
 }
 
-fn comma(i: usize) {
+fn comma<W: Write>(w: &mut W, i: usize) -> io::Result<()> {
     if i > 0 {
-        shown::say(b",");
+        shown::say(w, b",")?;
     }
+    Ok(())
 }
 
 // Cells that are all the same, more than 64 of them.
@@ -40,7 +43,8 @@ fn are_long(kinds: &[u8], numbers: &[i32]) -> bool {
 }
 
 // A cell; its text in place of a reference, where texts are asked for.
-fn value_out(
+fn value_out<W: Write>(
+    w: &mut W,
     kind: u8,
     number: i32,
     texts: bool,
@@ -48,17 +52,17 @@ fn value_out(
     lengths: &[u32],
     counts: &[u16],
     text: &[u8],
-) {
+) -> io::Result<()> {
     if texts {
         if kind == 2 {
-            shown::text(pool.get(lengths, counts, text, number));
-            return;
+            return shown::text(w, pool.get(lengths, counts, text, number));
         }
     }
-    shown::cell(kind, number);
+    shown::cell(w, kind, number)
 }
 
-fn values_out(
+fn values_out<W: Write>(
+    w: &mut W,
     kinds: &[u8],
     values: &[i32],
     texts: bool,
@@ -66,17 +70,19 @@ fn values_out(
     lengths: &[u32],
     counts: &[u16],
     text: &[u8],
-) {
+) -> io::Result<()> {
     for i in 0..kinds.len() {
         if values.len() <= i {
-            return;
+            return Ok(());
         }
-        comma(i);
-        value_out(kinds[i], values[i], texts, pool, lengths, counts, text);
+        comma(w, i)?;
+        value_out(w, kinds[i], values[i], texts, pool, lengths, counts, text)?;
     }
+    Ok(())
 }
 
-fn list(
+fn list<W: Write>(
+    w: &mut W,
     kinds: &[u8],
     values: &[i32],
     texts: bool,
@@ -84,20 +90,28 @@ fn list(
     lengths: &[u32],
     counts: &[u16],
     text: &[u8],
-) {
+) -> io::Result<()> {
     if kinds.len() == 0 {
-        shown::say(b"-");
-        return;
+        return shown::say(w, b"-");
     }
     if are_long(kinds, values) {
-        values_out(front(kinds, 1), values, texts, pool, lengths, counts, text);
-        shown::times(kinds.len());
-        return;
+        values_out(
+            w,
+            front(kinds, 1),
+            values,
+            texts,
+            pool,
+            lengths,
+            counts,
+            text,
+        )?;
+        return shown::times(w, kinds.len());
     }
-    values_out(kinds, values, texts, pool, lengths, counts, text);
+    values_out(w, kinds, values, texts, pool, lengths, counts, text)
 }
 
-fn cells_out(
+fn cells_out<W: Write>(
+    w: &mut W,
     rows: usize,
     kinds: &[u8],
     numbers: &[i32],
@@ -107,13 +121,14 @@ fn cells_out(
     lengths: &[u32],
     counts: &[u16],
     text: &[u8],
-) {
-    shown::say(b"ok ");
-    shown::number(rows);
-    shown::say(b" ");
+) -> io::Result<()> {
+    shown::say(w, b"ok ")?;
+    shown::number(w, rows)?;
+    shown::say(w, b" ")?;
     let n = places::bytes(kinds, cells);
     let m = places::numbers(numbers, cells);
     list(
+        w,
         &kinds[..n],
         &numbers[..m],
         texts,
@@ -121,7 +136,7 @@ fn cells_out(
         lengths,
         counts,
         text,
-    );
+    )
 }
 
 fn rows_of(counted: Counted) -> usize {
@@ -131,7 +146,8 @@ fn rows_of(counted: Counted) -> usize {
     }
 }
 
-fn read_cells(
+fn read_cells<W: Write>(
+    w: &mut W,
     s: &[u8],
     at: usize,
     table: Table,
@@ -141,31 +157,33 @@ fn read_cells(
     rows: usize,
     pool: StringPool,
     out: &mut [u8],
-) -> usize {
+) -> io::Result<usize> {
     let answer = table.read_rows(stream, kinds, numbers);
     match answer {
         Counted::Count(cells) => {
-            cells_out(rows, kinds, numbers, cells, false, pool, &[], &[], &[])
+            cells_out(w, rows, kinds, numbers, cells, false, pool, &[], &[], &[])?
         }
-        Counted::Refused(why) => refused(s, at, why),
+        Counted::Refused(why) => refused(w, s, at, why)?,
     }
-    kept::cells(kinds, numbers, out)
+    Ok(kept::cells(kinds, numbers, out))
 }
 
-fn read_table(
+fn read_table<W: Write>(
+    w: &mut W,
     s: &[u8],
     at: usize,
     table: Table,
     stream: &[u8],
     desk: Desk,
     out: &mut [u8],
-) -> Desk {
+) -> io::Result<Desk> {
     let mut kinds = kinds_room();
     let mut numbers = numbers_room();
     let rows = rows_of(table.num_rows(stream));
     let n = places::bytes(&kinds, desk.output(product(rows, table.count as u64)));
     let m = places::numbers(&numbers, n);
     let left = read_cells(
+        w,
         s,
         at,
         table,
@@ -175,12 +193,18 @@ fn read_table(
         rows,
         desk.pool,
         out,
-    );
-    desk.leaves(left, 5)
+    )?;
+    Ok(desk.leaves(left, 5))
 }
 
 // `read LONG LAYOUT BYTES`
-pub fn read(s: &[u8], at: usize, desk: Desk, out: &mut [u8]) -> Desk
+pub fn read<W: Write>(
+    w: &mut W,
+    s: &[u8],
+    at: usize,
+    desk: Desk,
+    out: &mut [u8],
+) -> io::Result<Desk>
     ensures { length out.new ≡ length out.old }
 {
     let mut stream = stream_room();
@@ -188,28 +212,36 @@ pub fn read(s: &[u8], at: usize, desk: Desk, out: &mut [u8]) -> Desk
     let made = laid(s, at);
     let answer = made.answer;
     match answer {
-        Laid::Made => read_table(s, at, made.table, front(&stream, n), desk, out),
+        Laid::Made => read_table(w, s, at, made.table, front(&stream, n), desk, out),
         Laid::Refused(why) => {
-            shown::refused(why);
-            desk
+            shown::refused(w, why)?;
+            Ok(desk)
         }
     }
 }
 
-fn read_place(s: &[u8], at: usize, table: Table, stream: &[u8], row: usize, column: usize) {
+fn read_place<W: Write>(
+    w: &mut W,
+    s: &[u8],
+    at: usize,
+    table: Table,
+    stream: &[u8],
+    row: usize,
+    column: usize,
+) -> io::Result<()> {
     let answer = table.read_cell(stream, row, column);
     match answer {
         CellRead::Value(value) => {
-            shown::say(b"ok ");
-            shown::cell(value.kind(), value.number());
+            shown::say(w, b"ok ")?;
+            shown::cell(w, value.kind(), value.number())
         }
-        CellRead::Refused(why) => refused(s, at, why),
+        CellRead::Refused(why) => refused(w, s, at, why),
     }
 }
 
 // `place LONG LAYOUT BYTES R C`
-pub fn place(s: &[u8], at: usize)
-    ensures { result ≡ tt }
+pub fn place<W: Write>(w: &mut W, s: &[u8], at: usize) -> io::Result<()>
+    ensures { IfOk result (λ u. u ≡ tt) }
 {
     let mut stream = stream_room();
     let bytes = next(s, next(s, at));
@@ -219,6 +251,7 @@ pub fn place(s: &[u8], at: usize)
     let answer = made.answer;
     match answer {
         Laid::Made => read_place(
+            w,
             s,
             at,
             made.table,
@@ -226,7 +259,7 @@ pub fn place(s: &[u8], at: usize)
             number_at(s, row) as usize,
             number_at(s, next(s, row)) as usize,
         ),
-        Laid::Refused(why) => shown::refused(why),
+        Laid::Refused(why) => shown::refused(w, why),
     }
 }
 
@@ -252,21 +285,29 @@ fn walk(table: Table, stream: &[u8], kinds: &mut [u8], values: &mut [i32]) -> us
 }
 
 // A pool that is not sound shows nothing of a cell.
-fn judged(pool: StringPool, lengths: &[u32], counts: &[u16], text: &[u8], cells: usize) -> bool {
+fn judged<W: Write>(
+    w: &mut W,
+    pool: StringPool,
+    lengths: &[u32],
+    counts: &[u16],
+    text: &[u8],
+    cells: usize,
+) -> io::Result<bool> {
     if cells == 0 {
-        return true;
+        return Ok(true);
     }
     let answer = pool_values::to_value(ValueRef::Null, pool, lengths, counts, text);
     match answer {
-        Shown::Value(_) => true,
+        Shown::Value(_) => Ok(true),
         Shown::Refused(why) => {
-            shown::refused(why);
-            false
+            shown::refused(w, why)?;
+            Ok(false)
         }
     }
 }
 
-fn walked(
+fn walked<W: Write>(
+    w: &mut W,
     table: Table,
     stream: &[u8],
     rows: usize,
@@ -274,18 +315,20 @@ fn walked(
     lengths: &[u32],
     counts: &[u16],
     text: &[u8],
-) {
+) -> io::Result<()> {
     let mut kinds = kinds_room();
     let mut numbers = numbers_room();
     let cells = walk(table, stream, &mut kinds, &mut numbers);
-    if judged(pool, lengths, counts, text, cells) {
+    if judged(w, pool, lengths, counts, text, cells)? {
         cells_out(
-            rows, &kinds, &numbers, cells, true, pool, lengths, counts, text,
-        );
+            w, rows, &kinds, &numbers, cells, true, pool, lengths, counts, text,
+        )?;
     }
+    Ok(())
 }
 
-fn counted(
+fn counted<W: Write>(
+    w: &mut W,
     s: &[u8],
     at: usize,
     table: Table,
@@ -294,17 +337,25 @@ fn counted(
     lengths: &[u32],
     counts: &[u16],
     text: &[u8],
-) {
+) -> io::Result<()> {
     let answer = table.num_rows(stream);
     match answer {
-        Counted::Count(rows) => walked(table, stream, rows, pool, lengths, counts, text),
-        Counted::Refused(why) => refused(s, at, why),
+        Counted::Count(rows) => walked(w, table, stream, rows, pool, lengths, counts, text),
+        Counted::Refused(why) => refused(w, s, at, why),
     }
 }
 
 // `rows LONG LAYOUT BYTES`
-pub fn rows(s: &[u8], at: usize, pool: StringPool, lengths: &[u32], counts: &[u16], text: &[u8])
-    ensures { result ≡ tt }
+pub fn rows<W: Write>(
+    w: &mut W,
+    s: &[u8],
+    at: usize,
+    pool: StringPool,
+    lengths: &[u32],
+    counts: &[u16],
+    text: &[u8],
+) -> io::Result<()>
+    ensures { IfOk result (λ u. u ≡ tt) }
 {
     let mut stream = stream_room();
     let n = bytes_in(s, next(s, next(s, at)), &mut stream);
@@ -312,6 +363,7 @@ pub fn rows(s: &[u8], at: usize, pool: StringPool, lengths: &[u32], counts: &[u1
     let answer = made.answer;
     match answer {
         Laid::Made => counted(
+            w,
             s,
             at,
             made.table,
@@ -321,6 +373,6 @@ pub fn rows(s: &[u8], at: usize, pool: StringPool, lengths: &[u32], counts: &[u1
             counts,
             text,
         ),
-        Laid::Refused(why) => shown::refused(why),
+        Laid::Refused(why) => shown::refused(w, why),
     }
 }

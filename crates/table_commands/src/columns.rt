@@ -1,5 +1,5 @@
 // Commands on columns, and columns as words of the command language.
-ghost use Rattle.std.specs.Prelude.{◌≡◌, ◌+◌, ◌*◌, ◌≤◌};
+ghost use Rattle.std.specs.Prelude.{◌≡◌, ◌+◌, ◌*◌, ◌≤◌, IfOk};
 
 use cell::Value;
 use column::{Bitfield, Column, ColumnBuilder, ColumnMade, ColumnType, Validity};
@@ -7,6 +7,8 @@ use commands::lists::Cell;
 use commands::words::{ITEM, after, byte, bytes_in, end_of, front, next};
 use commands::{lists, numbers, shown};
 use common::Refusal;
+use std::io;
+use std::io::Write;
 
 // 1 nullable, 2 localizable, 4 primary key, added up.
 fn marked(marks: u8) -> ColumnBuilder {
@@ -59,15 +61,15 @@ pub(crate) fn column_at(s: &[u8], at: usize, being_made: ColumnBuilder) -> Colum
     }
 }
 
-fn type_out(coltype: ColumnType) {
+fn type_out<W: Write>(w: &mut W, coltype: ColumnType) -> io::Result<()> {
     match coltype {
-        ColumnType::Int16 => shown::say(b"i2"),
-        ColumnType::Int32 => shown::say(b"i4"),
+        ColumnType::Int16 => shown::say(w, b"i2"),
+        ColumnType::Int32 => shown::say(w, b"i4"),
         ColumnType::Str(max) => {
-            shown::say(b"s");
-            shown::number(max as usize);
+            shown::say(w, b"s")?;
+            shown::number(w, max as usize)
         }
-        ColumnType::Binary => shown::say(b"b"),
+        ColumnType::Binary => shown::say(w, b"b"),
     }
 }
 
@@ -82,11 +84,11 @@ fn mark(on: bool, above: usize) -> usize
     2 * above
 }
 
-fn marks_out(column: Column) {
-    shown::say(b" ");
+fn marks_out<W: Write>(w: &mut W, column: Column) -> io::Result<()> {
+    shown::say(w, b" ")?;
     let key = mark(column.is_primary_key, 0);
     let localizable = mark(column.is_localizable, key);
-    shown::number(mark(column.is_nullable, localizable));
+    shown::number(w, mark(column.is_nullable, localizable))
 }
 
 // A refusal of a column: 16 in place of 19 where its type is unknown.
@@ -101,37 +103,37 @@ pub(crate) fn refusal(why: Refusal, unknown: bool) -> u32 {
 }
 
 // A column by itself has no place in the command language.
-fn alone(why: Refusal, unknown: bool) {
-    shown::say(b"error ");
-    shown::number(refusal(why, unknown) as usize);
+fn alone<W: Write>(w: &mut W, why: Refusal, unknown: bool) -> io::Result<()> {
+    shown::say(w, b"error ")?;
+    shown::number(w, refusal(why, unknown) as usize)
 }
 
-fn described(column: Column, bits: i32) {
-    shown::say(b"ok ");
+fn described<W: Write>(w: &mut W, column: Column, bits: i32) -> io::Result<()> {
+    shown::say(w, b"ok ")?;
     let coltype = column.coltype;
-    type_out(coltype);
-    marks_out(column);
-    shown::say(b" ");
-    numbers::show(bits);
+    type_out(w, coltype)?;
+    marks_out(w, column)?;
+    shown::say(w, b" ")?;
+    numbers::show(w, bits)
 }
 
-fn bits_out(column: Column, unknown: bool) {
+fn bits_out<W: Write>(w: &mut W, column: Column, unknown: bool) -> io::Result<()> {
     let answer = column.bitfield();
     match answer {
-        Bitfield::Bits(bits) => described(column, bits),
-        Bitfield::Refused(why) => alone(why, unknown),
+        Bitfield::Bits(bits) => described(w, column, bits),
+        Bitfield::Refused(why) => alone(w, why, unknown),
     }
 }
 
 // `col SPEC MARKS`
-pub fn made(s: &[u8], at: usize)
-    ensures { result ≡ tt }
+pub fn made<W: Write>(w: &mut W, s: &[u8], at: usize) -> io::Result<()>
+    ensures { IfOk result (λ u. u ≡ tt) }
 {
     let marks = byte(s, next(s, at));
     let answer = column_at(s, at, marked(marks));
     match answer {
-        ColumnMade::Made(column) => bits_out(column, is_unknown(s, at)),
-        ColumnMade::Refused(why) => alone(why, false),
+        ColumnMade::Made(column) => bits_out(w, column, is_unknown(s, at)),
+        ColumnMade::Refused(why) => alone(w, why, false),
     }
 }
 
@@ -156,21 +158,20 @@ fn value_of(cell: Cell) -> Value {
 }
 
 // A kind that there is not is refused after the column.
-fn valid(answer: Validity, known: bool, unknown: bool) {
+fn valid<W: Write>(w: &mut W, answer: Validity, known: bool, unknown: bool) -> io::Result<()> {
     match answer {
-        Validity::Refused(why) => alone(why, unknown),
-        Validity::Valid => flag(true, known),
-        Validity::Invalid => flag(false, known),
+        Validity::Refused(why) => alone(w, why, unknown),
+        Validity::Valid => flag(w, true, known),
+        Validity::Invalid => flag(w, false, known),
     }
 }
 
-fn flag(on: bool, known: bool) {
+fn flag<W: Write>(w: &mut W, on: bool, known: bool) -> io::Result<()> {
     if known {
-        shown::say(b"ok ");
-        shown::flag(on);
-        return;
+        shown::say(w, b"ok ")?;
+        return shown::flag(w, on);
     }
-    shown::say(b"error 16");
+    shown::say(w, b"error 16")
 }
 
 // An array that a call gives back is known by its size, and not place by place.
@@ -178,26 +179,33 @@ fn text_room() -> [u8; 140000] {
     [0u8; 140000]
 }
 
-fn check(column: Column, s: &[u8], at: usize, unknown: bool) {
+fn check<W: Write>(
+    w: &mut W,
+    column: Column,
+    s: &[u8],
+    at: usize,
+    unknown: bool,
+) -> io::Result<()> {
     let mut text = text_room();
     let n = bytes_in(s, after(s, at), &mut text);
     let cell = lists::cell_at(s, at);
     valid(
+        w,
         column.is_valid_value(value_of(cell), front(&text, n)),
         cell.kind < 4,
         unknown,
-    );
+    )
 }
 
 // `check SPEC MARKS RANGE VALUE`
-pub fn checked(s: &[u8], at: usize)
-    ensures { result ≡ tt }
+pub fn checked<W: Write>(w: &mut W, s: &[u8], at: usize) -> io::Result<()>
+    ensures { IfOk result (λ u. u ≡ tt) }
 {
     let marks = next(s, at);
     let range = next(s, marks);
     let answer = column_at(s, at, ranged(s, range, marked(byte(s, marks))));
     match answer {
-        ColumnMade::Made(column) => check(column, s, next(s, range), is_unknown(s, at)),
-        ColumnMade::Refused(why) => alone(why, false),
+        ColumnMade::Made(column) => check(w, column, s, next(s, range), is_unknown(s, at)),
+        ColumnMade::Refused(why) => alone(w, why, false),
     }
 }

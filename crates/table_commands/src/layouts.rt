@@ -1,5 +1,5 @@
 // Layouts: LONG LAYOUT, the columns by their bits, or each as `:TYPE`.
-ghost use Rattle.std.specs.Prelude.{◌≡◌};
+ghost use Rattle.std.specs.Prelude.{◌≡◌, IfOk};
 
 use crate::columns::{column_at, is_unknown, refusal};
 use column::{Column, ColumnMade};
@@ -7,6 +7,8 @@ use commands::lists::signed_in;
 use commands::words::{WORD, after, byte, end_of, next};
 use commands::{lists, places, shown};
 use common::{Place, Refusal};
+use std::io;
+use std::io::Write;
 use table::{Laid, Table, TableMade};
 
 // The column of a type behind a colon.
@@ -69,19 +71,19 @@ pub fn laid(s: &[u8], at: usize) -> TableMade {
 }
 
 // A refusal of a call on the table of LONG LAYOUT.
-pub fn refused(s: &[u8], at: usize, why: Refusal)
-    ensures { result ≡ tt }
+pub fn refused<W: Write>(w: &mut W, s: &[u8], at: usize, why: Refusal) -> io::Result<()>
+    ensures { IfOk result (λ u. u ≡ tt) }
 {
     let place = why.place();
     match place {
         Place::Column(column) => {
             let unknown = is_unknown(s, after(s, lists::nth(s, next(s, at), column)));
-            shown::say(b"error ");
-            shown::number(refusal(why, unknown) as usize);
-            shown::say(b" ");
-            shown::number(column);
+            shown::say(w, b"error ")?;
+            shown::number(w, refusal(why, unknown) as usize)?;
+            shown::say(w, b" ")?;
+            shown::number(w, column)
         }
-        Place::Nowhere => shown::refused(why),
-        Place::Cell { row: _, column: _ } => shown::refused(why),
+        Place::Nowhere => shown::refused(w, why),
+        Place::Cell { row: _, column: _ } => shown::refused(w, why),
     }
 }

@@ -11,6 +11,8 @@ use commands::lists::cells_in;
 use commands::words::{front, next, number_at, product};
 use commands::{kept, places, shown};
 use room_commands::Desk;
+use std::io;
+use std::io::Write;
 use table::{Counted, Laid, Table};
 
 // Rooms for the kinds and for the numbers of cells, as an output is before a call. An array that a call gives back is known by its
@@ -27,7 +29,8 @@ pub fn numbers_room() -> [i32; 65600]
     [-286331154i32; 65600]
 }
 
-fn write_table(
+fn write_table<W: Write>(
+    w: &mut W,
     s: &[u8],
     at: usize,
     table: Table,
@@ -35,7 +38,7 @@ fn write_table(
     values: &[i32],
     desk: Desk,
     out: &mut [u8],
-) -> Desk {
+) -> io::Result<Desk> {
     let n = places::bytes(out, desk.output(product(kinds.len(), 4)));
     kept::fill(&mut out[..n]);
     let rows = number_at(s, next(s, next(s, at))) as usize;
@@ -43,34 +46,47 @@ fn write_table(
     let answer = table.write_rows(rows, kinds, values, &mut out[..m]);
     match answer {
         Counted::Count(bytes) => {
-            shown::say(b"ok ");
-            shown::bytes(front(out, bytes));
+            shown::say(w, b"ok ")?;
+            shown::bytes(w, front(out, bytes))?;
         }
-        Counted::Refused(why) => refused(s, at, why),
+        Counted::Refused(why) => refused(w, s, at, why)?,
     }
-    desk.leaves(n, 1)
+    Ok(desk.leaves(n, 1))
 }
 
-fn write_cells(s: &[u8], at: usize, table: Table, desk: Desk, out: &mut [u8]) -> Desk {
+fn write_cells<W: Write>(
+    w: &mut W,
+    s: &[u8],
+    at: usize,
+    table: Table,
+    desk: Desk,
+    out: &mut [u8],
+) -> io::Result<Desk> {
     let mut kinds = kinds_room();
     let mut values = numbers_room();
     let given = cells_in(s, next(s, next(s, next(s, at))), &mut kinds, &mut values);
     let n = places::bytes(&kinds, given);
     let m = places::numbers(&values, given);
-    write_table(s, at, table, &kinds[..n], &values[..m], desk, out)
+    write_table(w, s, at, table, &kinds[..n], &values[..m], desk, out)
 }
 
 // `write LONG LAYOUT ROWS CELLS`
-pub fn write(s: &[u8], at: usize, desk: Desk, out: &mut [u8]) -> Desk
+pub fn write<W: Write>(
+    w: &mut W,
+    s: &[u8],
+    at: usize,
+    desk: Desk,
+    out: &mut [u8],
+) -> io::Result<Desk>
     ensures { length out.new ≡ length out.old }
 {
     let made = laid(s, at);
     let answer = made.answer;
     match answer {
-        Laid::Made => write_cells(s, at, made.table, desk, out),
+        Laid::Made => write_cells(w, s, at, made.table, desk, out),
         Laid::Refused(why) => {
-            shown::refused(why);
-            desk
+            shown::refused(w, why)?;
+            Ok(desk)
         }
     }
 }

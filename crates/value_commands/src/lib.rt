@@ -9,6 +9,8 @@ use common::{Refusal, StringRef};
 use pool_commands::{bytes_at, pooled};
 use pool_values::{Created, Shown};
 use room_commands::Desk;
+use std::io;
+use std::io::Write;
 use stringpool::{Showable, StringPool};
 
 // Commands, each the bytes of its word as one number, the first byte the highest.
@@ -24,11 +26,17 @@ pub const VALUE: u64 = 0x76616c7565;
 pub const SHOW: u64 = 0x73686f77;
 
 // The answer to a kind that there is not: 16, after 22 and 24.
-fn unknown(pool: StringPool, lengths: &[u32], counts: &[u16], text: &[u8]) {
+fn unknown<W: Write>(
+    w: &mut W,
+    pool: StringPool,
+    lengths: &[u32],
+    counts: &[u16],
+    text: &[u8],
+) -> io::Result<()> {
     let judged = pool_values::to_value(ValueRef::Null, pool, lengths, counts, text);
     match judged {
-        Shown::Value(_) => shown::say(b"error 16"),
-        Shown::Refused(why) => shown::refused(why),
+        Shown::Value(_) => shown::say(w, b"error 16"),
+        Shown::Refused(why) => shown::refused(w, why),
     }
 }
 
@@ -70,7 +78,8 @@ fn created(
     pool_values::create(value, new, pool, lengths, counts, text)
 }
 
-fn create(
+fn create<W: Write>(
+    w: &mut W,
     first: bool,
     cell: Cell,
     s: &[u8],
@@ -79,7 +88,7 @@ fn create(
     lengths: &mut [u32],
     counts: &mut [u16],
     text: &mut [u8],
-) -> Desk {
+) -> io::Result<Desk> {
     let pool = desk.pool;
     let mut new = text_room();
     let n = bytes_at(s, after(s, at), &mut new);
@@ -87,51 +96,58 @@ fn create(
     let answer = created(first, value_of(cell), new, pool, lengths, counts, text);
     match answer {
         Created::Value(made, after) => {
-            shown::say(b"ok ");
-            shown::cell(made.kind(), made.number());
-            desk.with_pool(after)
+            shown::say(w, b"ok ")?;
+            shown::cell(w, made.kind(), made.number())?;
+            Ok(desk.with_pool(after))
         }
         Created::Refused(why) => {
-            shown::refused(why);
-            desk
+            shown::refused(w, why)?;
+            Ok(desk)
         }
     }
 }
 
-fn remove(
+fn remove<W: Write>(
+    w: &mut W,
     cell: Cell,
     desk: Desk,
     lengths: &mut [u32],
     counts: &mut [u16],
     text: &mut [u8],
-) -> Desk {
+) -> io::Result<Desk> {
     let pool = desk.pool;
     pooled(
+        w,
         pool_values::remove(reference_of(cell), pool, lengths, counts, text),
         desk,
     )
 }
 
-fn found_out(found: &[u8], as_value: bool) {
-    shown::say(b"ok ");
+fn found_out<W: Write>(w: &mut W, found: &[u8], as_value: bool) -> io::Result<()> {
+    shown::say(w, b"ok ")?;
     if as_value {
-        shown::text(found);
-        return;
+        return shown::text(w, found);
     }
-    shown::bytes(found);
+    shown::bytes(w, found)
 }
 
 // A text that was found, by way of an output.
-fn shows(found: &[u8], as_value: bool, desk: Desk, out: &mut [u8]) -> Desk {
+fn shows<W: Write>(
+    w: &mut W,
+    found: &[u8],
+    as_value: bool,
+    desk: Desk,
+    out: &mut [u8],
+) -> io::Result<Desk> {
     let n = places::bytes(out, desk.output(found.len()));
     kept::fill(&mut out[..n]);
     if n < found.len() {
-        shown::refused(Refusal::OutputRoom);
-        return desk.leaves(n, 1);
+        shown::refused(w, Refusal::OutputRoom)?;
+        return Ok(desk.leaves(n, 1));
     }
     kept::bytes(found, out);
-    found_out(found, as_value);
-    desk.leaves(n, 1)
+    found_out(w, found, as_value)?;
+    Ok(desk.leaves(n, 1))
 }
 
 // An output that a refused call left.
@@ -142,7 +158,8 @@ fn untouched(desk: Desk, out: &mut [u8]) -> Desk {
 }
 
 // `show REF`
-pub fn show(
+pub fn show<W: Write>(
+    w: &mut W,
     s: &[u8],
     at: usize,
     desk: Desk,
@@ -150,40 +167,41 @@ pub fn show(
     counts: &[u16],
     text: &[u8],
     out: &mut [u8],
-) -> Desk {
+) -> io::Result<Desk> {
     let number = numbers::signed_at(s, at);
     let pool = desk.pool;
     let answer = pool.get_refusal(lengths, counts, text, number);
     match answer {
-        Showable::Yes => shows(pool.get(lengths, counts, text, number), false, desk, out),
+        Showable::Yes => shows(w, pool.get(lengths, counts, text, number), false, desk, out),
         Showable::Refused(why) => {
-            shown::refused(why);
-            untouched(desk, out)
+            shown::refused(w, why)?;
+            Ok(untouched(desk, out))
         }
     }
 }
 
 // A value that is no text leaves the last output as it was.
-fn plain(value: Value) {
+fn plain<W: Write>(w: &mut W, value: Value) -> io::Result<()> {
     match value {
-        Value::Null => shown::say(b"ok n"),
+        Value::Null => shown::say(w, b"ok n"),
         Value::Int(number) => {
-            shown::say(b"ok i");
-            numbers::show(number);
+            shown::say(w, b"ok i")?;
+            numbers::show(w, number)
         }
-        Value::Str => shown::say(b"ok t"),
-        Value::Binary => shown::say(b"ok b"),
+        Value::Str => shown::say(w, b"ok t"),
+        Value::Binary => shown::say(w, b"ok b"),
     }
 }
 
-fn value(
+fn value<W: Write>(
+    w: &mut W,
     cell: Cell,
     desk: Desk,
     lengths: &[u32],
     counts: &[u16],
     text: &[u8],
     out: &mut [u8],
-) -> Desk {
+) -> io::Result<Desk> {
     let pool = desk.pool;
     let reference = reference_of(cell);
     let answer = pool_values::to_value(reference, pool, lengths, counts, text);
@@ -191,24 +209,26 @@ fn value(
         Shown::Value(value) => {
             if cell.kind == 2 {
                 return shows(
+                    w,
                     pool_values::to_text(reference, pool, lengths, counts, text),
                     true,
                     desk,
                     out,
                 );
             }
-            plain(value);
-            desk
+            plain(w, value)?;
+            Ok(desk)
         }
         Shown::Refused(why) => {
-            shown::refused(why);
-            desk
+            shown::refused(w, why)?;
+            Ok(desk)
         }
     }
 }
 
 // `create` and `create-default`, `remove`, `value`
-pub fn answer(
+pub fn answer<W: Write>(
+    w: &mut W,
     word: u64,
     s: &[u8],
     at: usize,
@@ -217,16 +237,26 @@ pub fn answer(
     counts: &mut [u16],
     text: &mut [u8],
     out: &mut [u8],
-) -> Desk {
+) -> io::Result<Desk> {
     let cell = cell_at(s, at);
     if cell.kind > 3 {
-        unknown(desk.pool, lengths, counts, text);
-        return desk;
+        unknown(w, desk.pool, lengths, counts, text)?;
+        return Ok(desk);
     }
     match word {
-        CREATE | CREATE_DEFAULT => create(word == CREATE, cell, s, at, desk, lengths, counts, text),
-        REMOVE => remove(cell, desk, lengths, counts, text),
-        _ => value(cell, desk, lengths, counts, text, out),
+        CREATE | CREATE_DEFAULT => create(
+            w,
+            word == CREATE,
+            cell,
+            s,
+            at,
+            desk,
+            lengths,
+            counts,
+            text,
+        ),
+        REMOVE => remove(w, cell, desk, lengths, counts, text),
+        _ => value(w, cell, desk, lengths, counts, text, out),
     }
 }
 

@@ -33,22 +33,19 @@ loop-i-init c =
 
 pub returns-in_default : goal.returns-in_default
 returns-in_default c =
-    let s' = c in
     let l = c.loop-i in
-    let s : List ℕ = s'.args.s.now in
-    let f = s'.requires in
+    let s : List ℕ = c.args.s.now in
+    let f = c.requires in
     let o = is_one s (length s - (l.i + 1)) l.at (lengths_in s) (counts_in s) l.i (omega (arith, f.many)) (omega (arith, f.even)) (left s l.i l.at (omega arith) l.invariant.4)
     c.first_entry-entry.result (c.first_entry-entry.ensures ∙ ap entry_in (tail_part l.at s)) in
-    absurd (⊎_elim (λ w. omega arith) (λ w. omega arith) (rw o.4 at c.in-One.keys2))
+    absurd (c.in_default.not-One o.0 o.1 o.2 o.3 o.4)
 
 pub loop-i-preserved : goal.loop-i-preserved
 loop-i-preserved c =
-    let found : entry_in (drop c.loop-i.at c.args.s.now) ≡ found_as c.first_entry-entry.result = let at-loop = c in ap entry_in (sym (tail_part at-loop.loop.at c.args.s.now)) ∙ sym c.first_entry-entry.ensures in
-    let at-loop = c in
-    let s' = c in
-    let l = at-loop.loop in
-    let s : List ℕ = s'.args.s.now in
-    let f = s'.requires in
+    let found : entry_in (drop c.loop-i.at c.args.s.now) ≡ found_as c.first_entry-entry.result = ap entry_in (sym (tail_part c.loop-i.at c.args.s.now)) ∙ sym c.first_entry-entry.ensures in
+    let l = c.loop-i in
+    let s : List ℕ = c.args.s.now in
+    let f = c.requires in
     let e = found ∙ ap found_as c.in-One.is in
     let a = found_size (drop l.at s) _ _ _ _ e in
     let m = one_more s (length s - (l.i + 1)) l.at (lengths_in s) (counts_in s) l.i (omega (arith, f.many)) (omega (arith, f.even)) (left s l.i l.at (omega arith) l.invariant.4) _ _ _ _ e in (

@@ -23,11 +23,10 @@ returns-in-Cut c = size-cut c.args.s.now c.loop-length.n c.loop-length.sum c.loo
 pub loop-length-preserved : goal.loop-length-preserved
 loop-length-preserved c =
     let found : entry_in (drop c.loop-length.at c.args.s.now) ≡ found_as c.first_entry-entry.result = ap entry_in (sym (tail_part c.loop-length.at c.args.s.now)) ∙ sym c.first_entry-entry.ensures in
-    let g = c.entry-1.given in
-    let e = found ∙ ap found_as g.1 in
+    let e = found ∙ ap found_as c.in-One.is in
     let a = found_size (drop c.loop-length.at c.args.s.now) _ _ _ _ e in (
       omega (arith, a, length-drop c.loop-length.at c.args.s.now),
       omega (arith, a, length-drop c.loop-length.at c.args.s.now),
-      omega (arith, c.known_told-1.given),
+      omega arith,
       size-one c.args.s.now c.loop-length.n c.loop-length.sum c.loop-length.at (omega arith) c.loop-length.invariant.3 _ _ _ _ e,
     )

@@ -18,8 +18,7 @@ write_entry-at-requires c =
 
 pub loop-i-preserved : goal.loop-i-preserved
 loop-i-preserved c =
-    let at-loop = c in
-    let l = at-loop.loop in
+    let l = c.loop-i in
     let x : List ℕ = entry_bytes (get_or c.args.lengths.now l.i 0) (get_or c.args.counts.now l.i 0) in
     let room = turn_room c.args.lengths.now c.args.counts.now c.args.out.now c.args.n l.i c.requires.0 c.requires.1 (omega arith) c.requires.2 in (
       omega arith,

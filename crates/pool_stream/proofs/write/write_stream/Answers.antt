@@ -17,17 +17,13 @@ pub mark-requires : goal.mark-requires
 mark-requires c =
     let W : Rooms = rooms c.args.lengths.now c.args.counts.now c.args.text.now in
     let Used : ℕ = total (take c.args.num_strings c.args.lengths.now) in
-    let Judged : ℕ → Type 0 = λ u. gives u ≡ judge_answer c.args.num_strings c.args.codepage W in
-    let passed : Judged u → Passed c.args.num_strings c.args.codepage W = λ e. call_passed c.args.num_strings c.args.codepage W Used e in
-    (passed (sym (ap judged_as c.in-Sound.is) ∙ c.judge-state.ensures)).page
+    (call_passed c.args.num_strings c.args.codepage W Used (sym (ap judged_as c.in-Sound.is) ∙ c.judge-state.ensures)).page
 
 pub write_fitting-requires : goal.write_fitting-requires
 write_fitting-requires c =
     let W : Rooms = rooms c.args.lengths.now c.args.counts.now c.args.text.now in
     let Used : ℕ = total (take c.args.num_strings c.args.lengths.now) in
-    let Judged : ℕ → Type 0 = λ u. gives u ≡ judge_answer c.args.num_strings c.args.codepage W in
-    let passed : Judged u → Passed c.args.num_strings c.args.codepage W = λ e. call_passed c.args.num_strings c.args.codepage W Used e in
-    let p = passed (sym (ap judged_as c.in-Sound.is) ∙ c.judge-state.ensures) in
+    let p = call_passed c.args.num_strings c.args.codepage W Used (sym (ap judged_as c.in-Sound.is) ∙ c.judge-state.ensures) in
     (p.fit.lengths, p.fit.counts, p.few)
 
 pub returns-in-Sound : goal.returns-in-Sound
@@ -36,11 +32,8 @@ returns-in-Sound c =
     let Used : ℕ = total (take c.args.num_strings c.args.lengths.now) in
     let Out : List ℕ = c.args.out.now in
     let Bytes : Answer (ℕ × List ℕ) = written_to Out (stream_bytes c.args.num_strings c.args.long_string_refs c.args.codepage W) in
-    let Judged : ℕ → Type 0 = λ u. gives u ≡ judge_answer c.args.num_strings c.args.codepage W in
-    let passed : Judged u → Passed c.args.num_strings c.args.codepage W = λ e. call_passed c.args.num_strings c.args.codepage W Used e in
-    let at-judge = c in
-    let e = sym (ap judged_as c.in-Sound.is) ∙ at-judge.judge.ensures in
+    let e = sym (ap judged_as c.in-Sound.is) ∙ c.judge-state.ensures in
     c.write_fitting.ensures
     ∙ ap (λ (m : ℕ). outcome Out (written_to Out (stream_by m c.args.num_strings c.args.lengths.now c.args.counts.now))) c.mark.ensures
-    ∙ ap (λ (x : List ℕ). outcome Out (written_to Out x)) (stream-same c.args.num_strings c.args.long_string_refs c.args.codepage W (passed e).fit)
+    ∙ ap (λ (x : List ℕ). outcome Out (written_to Out x)) (stream-same c.args.num_strings c.args.long_string_refs c.args.codepage W (call_passed c.args.num_strings c.args.codepage W Used e).fit)
     ∙ ap (outcome Out) (call_on c.args.num_strings c.args.codepage W Used e Bytes)

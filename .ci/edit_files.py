@@ -96,7 +96,7 @@ def off_its_fact(top, name, text, words, optional=False):
 def prove(top, crates):
     """Has `rt` prove these crates of the tree, and keep in their out/ what it proved: what is tried in a copy then begins with it. Gives
     what it said of one that is not proved; where all are, nothing. Where nothing changed since, it takes no time."""
-    listed = re.findall(r'^(\w+)[ \w]*:', read(f'{top}/crates.txt'), re.M)
+    listed = re.findall(r'^(\w+)[^:\n]*:', read(f'{top}/crates.txt'), re.M)
     for crate in [name for name in listed if name in crates]:
         run = subprocess.run(['rt', 'lib'], cwd=f'{top}/crates/{crate}', stdout=subprocess.PIPE, stderr=subprocess.STDOUT, text=True, errors='replace')
         if run.returncode:

@@ -12,7 +12,7 @@ use stringpool::StringPool;
 
 // `place` is 0 where there is none, 1 for a column, 2 for a cell.
 #[repr(C)]
-#[derive(Drop)]
+#[derive(Clone, Copy)]
 pub struct Refused {
     pub number: u32,
     pub place: u32,
@@ -21,14 +21,14 @@ pub struct Refused {
 }
 
 #[repr(C)]
-#[derive(Drop)]
+#[derive(Clone, Copy)]
 pub struct Count {
     pub refused: Refused,
     pub value: usize,
 }
 
 #[repr(C)]
-#[derive(Drop)]
+#[derive(Clone, Copy)]
 pub struct Name {
     pub refused: Refused,
     pub units: usize,
@@ -36,7 +36,7 @@ pub struct Name {
 }
 
 #[repr(C)]
-#[derive(Drop)]
+#[derive(Clone, Copy)]
 pub struct Flag {
     pub refused: Refused,
     pub value: bool,
@@ -129,14 +129,14 @@ pub fn told_of(why: Refusal, coltype: u32) -> Refused
 
 // A pool's state; its rooms are lent beside it.
 #[repr(C)]
-#[derive(Drop)]
+#[derive(Clone, Copy)]
 pub struct PoolAnswer {
     pub refused: Refused,
     pub pool: StringPool,
 }
 
 #[repr(C)]
-#[derive(Drop)]
+#[derive(Clone, Copy)]
 pub struct TakeAnswer {
     pub refused: Refused,
     pub pool: StringPool,
@@ -144,7 +144,7 @@ pub struct TakeAnswer {
 }
 
 #[repr(C)]
-#[derive(Drop)]
+#[derive(Clone, Copy)]
 pub struct Reference {
     pub refused: Refused,
     pub value: i32,
@@ -152,7 +152,7 @@ pub struct Reference {
 
 // A cell's kind (0 Null, 1 Int, 2 Str, 3 Binary) and number.
 #[repr(C)]
-#[derive(Drop)]
+#[derive(Clone, Copy)]
 pub struct CellAnswer {
     pub refused: Refused,
     pub kind: u8,
@@ -162,7 +162,7 @@ pub struct CellAnswer {
 // A column, or one being made: its type (0 Int16, 1 Int32, 2 Str, 3 Binary, any other unknown) with the maximum of a Str, its
 // marks, and its range, which counts where `has_range` is set.
 #[repr(C)]
-#[derive(Drop)]
+#[derive(Clone, Copy)]
 pub struct ColumnParts {
     pub coltype: u32,
     pub max_len: u32,
@@ -175,7 +175,7 @@ pub struct ColumnParts {
 }
 
 #[repr(C)]
-#[derive(Drop)]
+#[derive(Clone, Copy)]
 pub struct ColumnAnswer {
     pub refused: Refused,
     pub column: ColumnParts,
@@ -183,7 +183,7 @@ pub struct ColumnAnswer {
 
 // A layout, handed over whole: its first `count` columns are in use.
 #[repr(C)]
-#[derive(Drop)]
+#[derive(Clone, Copy)]
 pub struct TableParts {
     pub columns: [ColumnParts; 64],
     pub count: usize,
@@ -192,7 +192,7 @@ pub struct TableParts {
 
 // With no columns in use where it was refused.
 #[repr(C)]
-#[derive(Drop)]
+#[derive(Clone, Copy)]
 pub struct TableAnswer {
     pub refused: Refused,
     pub table: TableParts,
@@ -200,7 +200,7 @@ pub struct TableAnswer {
 
 // A cell and the place of the reader after it; `found` is not set past the last cell.
 #[repr(C)]
-#[derive(Drop)]
+#[derive(Clone, Copy)]
 pub struct StepAnswer {
     pub refused: Refused,
     pub at: usize,
@@ -210,7 +210,7 @@ pub struct StepAnswer {
 }
 
 #[repr(C)]
-#[derive(Drop)]
+#[derive(Clone, Copy)]
 pub struct CreateAnswer {
     pub refused: Refused,
     pub pool: StringPool,

@@ -15,7 +15,7 @@ use column::{Bitfield, Column, ColumnBuilder, ColumnMade, ColumnType, Validity, 
 use common::sizes::MAX_STRING;
 
 // The range of a column.
-#[derive(Drop)]
+#[derive(Clone, Copy)]
 struct RangeParts {
     has_range: bool,
     min: i32,

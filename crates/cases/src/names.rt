@@ -7,7 +7,7 @@ ghost use Rattle.cases.specs.Cases as cases;
 use streamname::Encoded;
 
 // What `encode` answers, and its output.
-#[derive(Drop)]
+#[derive(Clone, Copy)]
 pub struct Units {
     pub answer: Encoded,
     pub out: [u16; 8],

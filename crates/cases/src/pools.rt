@@ -9,7 +9,7 @@ ghost use Rattle.cases.specs.Cases as cases;
 use stringpool::{Pooled, StringPool, Taken};
 
 // What `load` answers, and the rooms afterwards.
-#[derive(Drop)]
+#[derive(Clone, Copy)]
 pub struct Pool {
     pub answer: Pooled,
     pub lengths: [u32; 4],
@@ -18,7 +18,7 @@ pub struct Pool {
 }
 
 // What `incref_first` answers, and the rooms afterwards.
-#[derive(Drop)]
+#[derive(Clone, Copy)]
 pub struct Take {
     pub answer: Taken,
     pub lengths: [u32; 4],

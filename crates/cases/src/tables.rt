@@ -9,7 +9,7 @@ use column::{Column, ColumnMade};
 use table::{Counted, Table};
 
 // What `write_rows` answers, and its output.
-#[derive(Drop)]
+#[derive(Clone, Copy)]
 pub struct Bytes {
     pub answer: Counted,
     pub out: [u8; 8],

@@ -11,7 +11,7 @@ pub use crate::table::{bulk_fits, cell_fits};
 use common::Refusal;
 
 // No refusal is met, or the first.
-#[derive(Drop)]
+#[derive(Clone, Copy)]
 pub enum Fits {
     Yes,
     Refused(Refusal),

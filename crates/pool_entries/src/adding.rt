@@ -6,14 +6,14 @@ ghost use Rattle.pool_entries.specs.inner.Adding.{Tallied, Summed};
 use std::num::wrapping_add_u32;
 
 // A sum of lengths in 32 bits, good only where `bits`, all their bits together, are at most 65,535.
-#[derive(Drop)]
+#[derive(Clone, Copy)]
 struct Narrow {
     sum: u32,
     bits: u32,
 }
 
 // A sum of lengths, and all their bits together: at most 65,535 only where none is above it.
-#[derive(Drop)]
+#[derive(Clone, Copy)]
 pub(crate) struct Sum {
     pub sum: u64,
     pub bits: u32,

@@ -14,14 +14,14 @@ use common::Refusal;
 use common::sizes::MAX_BYTES;
 
 // The place chosen, that after the last for a new entry; where its text starts; and the bytes that all texts use.
-#[derive(Drop)]
+#[derive(Clone, Copy)]
 pub struct Spot {
     pub place: usize,
     pub start: usize,
     pub used: usize,
 }
 
-#[derive(Drop)]
+#[derive(Clone, Copy)]
 pub enum Choice {
     At(Spot),
     Refused(Refusal),

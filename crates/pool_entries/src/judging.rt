@@ -10,7 +10,7 @@ use common::Refusal;
 use common::sizes::{MAX_BYTES, MAX_CODEPAGE, MAX_ENTRIES};
 
 // Of a sound state, how many bytes its texts use.
-#[derive(Drop)]
+#[derive(Clone, Copy)]
 pub enum State {
     Sound(usize),
     Refused(Refusal),

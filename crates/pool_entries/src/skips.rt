@@ -3,7 +3,7 @@ ghost use Rattle.std.specs.Prelude.{◌≡◌, ◌+◌, ◌<◌, ◌≤◌, leng
 ghost use Rattle.pool_entries.specs.inner.Look.{SumTo, PassedBy};
 
 // A place, and the sum of the lengths before it.
-#[derive(Drop)]
+#[derive(Clone, Copy)]
 pub(crate) struct Step(pub usize, pub usize);
 
 // The length at i.

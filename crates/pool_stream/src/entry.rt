@@ -8,7 +8,7 @@ use little_endian::read;
 
 // What stands at the front of the bytes that are left of a pool stream. A load does not ask for `wide` and `stray`: they are for a check
 // that a stream is tidy (document 02, E13), whose rules forbid a 4-byte length up to 65,535 and a stray byte.
-#[derive(Drop)]
+#[derive(Clone, Copy)]
 pub(crate) enum PoolEntry {
     One {
         length: u32,

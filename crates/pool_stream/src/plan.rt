@@ -10,13 +10,13 @@ use crate::entry::{PoolEntry, first_entry};
 use common::Refusal;
 use order::{Fits, load_fits, streams_fit};
 
-#[derive(Drop)]
+#[derive(Clone, Copy)]
 pub enum LoadPlan {
     Of(usize, usize),
     Refused(Refusal),
 }
 
-#[derive(Drop)]
+#[derive(Clone, Copy)]
 pub(crate) enum Sized {
     Is(usize, u64),
     Cut,

@@ -17,13 +17,13 @@ use common::Refusal;
 use common::sizes::MAX_BYTES;
 use stringpool::{Pooled, Showable, StringPool, StringRef, Taken};
 
-#[derive(Drop)]
+#[derive(Clone, Copy)]
 pub enum Created {
     Value(ValueRef, StringPool),
     Refused(Refusal),
 }
 
-#[derive(Drop)]
+#[derive(Clone, Copy)]
 pub enum Shown {
     Value(Value),
     Refused(Refusal),

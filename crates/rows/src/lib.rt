@@ -10,7 +10,7 @@ use cell::ValueRef;
 use common::Refusal;
 use table::{CellRead, Counted, Table};
 
-#[derive(Drop)]
+#[derive(Clone, Copy)]
 pub enum NextCell {
     Cell(ValueRef),
     End,
@@ -18,7 +18,7 @@ pub enum NextCell {
 }
 
 // What a step answers, and the place after it.
-#[derive(Drop)]
+#[derive(Clone, Copy)]
 pub struct Step {
     pub cell: NextCell,
     pub at: usize,
@@ -80,7 +80,7 @@ fn stopped(refusal: Refusal, at: usize) -> Step
 }
 
 // A table's stream and a place in it.
-#[derive(Drop)]
+#[derive(Clone, Copy)]
 pub struct Rows<'a> {
     pub stream: &'a [u8],
     pub at: usize,

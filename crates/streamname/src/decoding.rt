@@ -9,7 +9,7 @@ use crate::letters::from_b64;
 use common::sizes::MAX_NAME;
 
 // What a stored unit stands for.
-#[derive(Drop)]
+#[derive(Clone, Copy)]
 pub(crate) enum Unpacked {
     One(u16),
     Two(u16, u16),

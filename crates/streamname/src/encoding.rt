@@ -7,7 +7,7 @@ ghost use Rattle.common.specs.Lists.{every};
 use crate::letters::{Packing, numbers, to_b64};
 
 // A packed unit, and how many units of the name it takes.
-#[derive(Drop)]
+#[derive(Clone, Copy)]
 pub(crate) struct Packed {
     pub unit: u16,
     pub used: usize,
@@ -54,7 +54,7 @@ fn is_allowed(unit: u16) -> bool
 }
 
 // The name up to `at`: how many packed units stand for it, and whether all its own are allowed.
-#[derive(Drop)]
+#[derive(Clone, Copy)]
 pub(crate) struct Tally {
     pub units: usize,
     pub allowed: bool,

@@ -4,7 +4,7 @@ ghost use Rattle.streamname.specs.Letters.{to_b64_lem, from_b64_lem};
 ghost use Rattle.streamname.specs.inner.Packing.{letter_of, letter_numbers};
 
 // What a unit is to the packing: one of the 64 letters, by its number, or any other unit.
-#[derive(Drop)]
+#[derive(Clone, Copy)]
 pub(crate) enum Packing {
     Letter(u16),
     Other,

@@ -20,19 +20,19 @@ const TABLE_PREFIX: u16 = 0x4840;
 // The longest name of a stream in a compound file, in units.
 const MAX_STREAM: usize = 31;
 
-#[derive(Drop)]
+#[derive(Clone, Copy)]
 pub enum Encoded {
     Units(usize),
     Refused(Refusal),
 }
 
-#[derive(Drop)]
+#[derive(Clone, Copy)]
 pub enum Decoded {
     Name { units: usize, is_table: bool },
     Refused(Refusal),
 }
 
-#[derive(Drop)]
+#[derive(Clone, Copy)]
 pub enum Validity {
     Valid,
     Invalid,

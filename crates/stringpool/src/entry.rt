@@ -7,7 +7,7 @@ ghost use Rattle.stringpool.specs.inner.Plan.{carried, Ready};
 use common::Refusal;
 use text_room::replace;
 
-#[derive(Drop)]
+#[derive(Clone, Copy)]
 pub(crate) enum Plan {
     Refused(Refusal),
     // The entry at a place gets another count.

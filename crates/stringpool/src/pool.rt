@@ -2,7 +2,7 @@
 use common::Refusal;
 
 #[repr(C)]
-#[derive(Drop)]
+#[derive(Clone, Copy)]
 pub struct StringPool {
     pub num_strings: usize,
     pub codepage: u32,
@@ -10,7 +10,7 @@ pub struct StringPool {
 }
 
 // What a call that makes or changes a pool answers: the pool after it, or why there is none.
-#[derive(Drop)]
+#[derive(Clone, Copy)]
 pub enum Pooled {
     Is(StringPool),
     Refused(Refusal),

@@ -7,10 +7,10 @@ ghost use Rattle.stringpool.specs.inner.Refs.{placed_as, ref_of};
 use common::{Made, Refusal, StringRef};
 
 // Where an entry stands in the lent lengths and counts.
-#[derive(Drop)]
+#[derive(Clone, Copy)]
 pub(crate) struct EntryPlace(pub usize);
 
-#[derive(Drop)]
+#[derive(Clone, Copy)]
 pub(crate) enum Placed {
     At(EntryPlace),
     Refused(Refusal),

@@ -11,14 +11,14 @@ use crate::refs::{Placed, place};
 use common::{Made, Refusal, StringRef};
 use pool_entries::{State, judge};
 
-#[derive(Drop)]
+#[derive(Clone, Copy)]
 pub enum Counted {
     Is(u16),
     Refused(Refusal),
 }
 
 // Whether a show is refused.
-#[derive(Drop)]
+#[derive(Clone, Copy)]
 pub enum Showable {
     Yes,
     Refused(Refusal),

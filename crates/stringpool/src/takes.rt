@@ -14,7 +14,7 @@ use order::{Fits, add_fits};
 use pool_entries::{Choice, choose, prefer};
 use pool_stream::entry_room;
 
-#[derive(Drop)]
+#[derive(Clone, Copy)]
 pub enum Taken {
     Ref(StringRef, StringPool),
     Refused(Refusal),

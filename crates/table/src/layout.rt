@@ -11,7 +11,7 @@ use common::sizes::MAX_COLUMNS;
 use order::Fits;
 
 // A layout, handed over whole: its first `count` columns are in use.
-#[derive(Drop)]
+#[derive(Clone, Copy)]
 pub struct Table {
     pub columns: [Column; 64],
     pub count: usize,
@@ -19,21 +19,21 @@ pub struct Table {
 }
 
 // Whether a layout was made, or why not.
-#[derive(Drop)]
+#[derive(Clone, Copy)]
 pub enum Laid {
     Made,
     Refused(Refusal),
 }
 
 // A layout, with no columns where it was refused.
-#[derive(Drop)]
+#[derive(Clone, Copy)]
 pub struct TableMade {
     pub answer: Laid,
     pub table: Table,
 }
 
 // How many rows, cells or bytes, or why none.
-#[derive(Drop)]
+#[derive(Clone, Copy)]
 pub enum Counted {
     Count(usize),
     Refused(Refusal),

@@ -18,7 +18,7 @@ use common::Refusal;
 use order::{Fits, cell_fits};
 use widths::{Places, PlacesFound};
 
-#[derive(Drop)]
+#[derive(Clone, Copy)]
 pub enum CellRead {
     Value(ValueRef),
     Refused(Refusal),
@@ -28,7 +28,7 @@ pub enum CellRead {
 const NEAR: usize = 1024;
 
 // Some rows of a table, from `first` on.
-#[derive(Drop)]
+#[derive(Clone, Copy)]
 pub(crate) struct Band {
     pub(crate) first: usize,
     pub(crate) rows: usize,

@@ -12,7 +12,7 @@ use common::sizes::{MAX_BYTES, MAX_ROWS};
 use order::Fits;
 
 // Each column's width, and where it begins in the stream. They travel by value.
-#[derive(Drop)]
+#[derive(Clone, Copy)]
 pub struct Places {
     pub rows: usize,
     pub widths: [usize; 64],
@@ -20,7 +20,7 @@ pub struct Places {
 }
 
 // Whether there are rows to be found, and their places, all 0 where there are none.
-#[derive(Drop)]
+#[derive(Clone, Copy)]
 pub struct PlacesFound {
     pub answer: Fits,
     pub places: Places,

@@ -9,14 +9,14 @@ use common::sizes::MAX_COLUMNS;
 use order::Fits;
 
 // They travel by value.
-#[derive(Drop)]
+#[derive(Clone, Copy)]
 pub struct Widths {
     pub widths: [usize; 64],
     pub row_size: usize,
 }
 
 // Whether the columns are sound, and their widths, all 0 where they are not.
-#[derive(Drop)]
+#[derive(Clone, Copy)]
 pub struct WidthsFound {
     pub answer: Fits,
     pub widths: Widths,

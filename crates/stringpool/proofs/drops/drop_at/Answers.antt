@@ -18,17 +18,17 @@ returns-in-Refused c =
     let W : List ℕ → Rooms = λ ts. rooms c.args.lengths.now c.args.counts.now ts in
     let n : ℕ = c.args.p.num_strings in
     let k : ℕ = c.args.place.0 in
-    let fit : c.args.used ≤ length ts → Fit n (W ts) = λ ts h. record { lengths = c.requires.0; counts = c.requires.1; text = omega (arith, c.requires.3, h) } in
+    let fit : (ts : List ℕ) → c.args.used ≤ length ts → Fit n (W ts) = λ ts h. record { lengths = c.requires.0; counts = c.requires.1; text = omega (arith, c.requires.3, h) } in
     λ ts h size.
     not_dropped c.args.p (W ts) (fit ts h) k _
-    (sym (ap fits_as c.fits-1.given.1) ∙ c.drop_fits-fits.ensures ∙ ap (drop_fits_lem n k) c.count_of-count.ensures)
+    (sym (ap fits_as c.in-Refused.is) ∙ c.drop_fits-fits.ensures ∙ ap (drop_fits_lem n k) c.count_of-count.ensures)
 
 pub returns-then-count-gt1 : goal.returns-then-count-gt1
 returns-then-count-gt1 c =
     let W : List ℕ → Rooms = λ ts. rooms c.args.lengths.now c.args.counts.now ts in
     let k : ℕ = c.args.place.0 in
     let n : ℕ = c.args.p.num_strings in
-    let fit : c.args.used ≤ length ts → Fit n (W ts) = λ ts h. record { lengths = c.requires.0; counts = c.requires.1; text = omega (arith, c.requires.3, h) } in
+    let fit : (ts : List ℕ) → c.args.used ≤ length ts → Fit n (W ts) = λ ts h. record { lengths = c.requires.0; counts = c.requires.1; text = omega (arith, c.requires.3, h) } in
     let Fits : Type 0 = gives tt ≡ drop_fits_lem n k (get_or (take n c.args.counts.now) k 0) in
     let fits : Fits = sym (ap fits_as c.in_default.is) ∙ c.drop_fits-fits.ensures ∙ ap (drop_fits_lem n k) c.count_of-count.ensures in
     λ ts h size.
@@ -50,9 +50,9 @@ returns c =
     let W : List ℕ → Rooms = λ ts. rooms c.args.lengths.now c.args.counts.now ts in
     let k : ℕ = c.args.place.0 in
     let n : ℕ = c.args.p.num_strings in
-    let fit : c.args.used ≤ length ts → Fit n (W ts) = λ ts h. record { lengths = c.requires.0; counts = c.requires.1; text = omega (arith, c.requires.3, h) } in
+    let fit : (ts : List ℕ) → c.args.used ≤ length ts → Fit n (W ts) = λ ts h. record { lengths = c.requires.0; counts = c.requires.1; text = omega (arith, c.requires.3, h) } in
     let Fits : Type 0 = gives tt ≡ drop_fits_lem n k (get_or (take n c.args.counts.now) k 0) in
     let fits : Fits = sym (ap fits_as c.in_default.is) ∙ c.drop_fits-fits.ensures ∙ ap (drop_fits_lem n k) c.count_of-count.ensures in
     λ ts h size.
-    rw (c.start_of_lem.ensures, c.requires.3)
+    rw (c.start_of.ensures, c.requires.3)
     (drop-last c.args.p (W ts) (fit ts h) k fits c.requires.2 size (omega (arith, c.if-count-gt1.false, c.count_of-count.ensures)))

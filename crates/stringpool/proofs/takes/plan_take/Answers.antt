@@ -19,9 +19,9 @@ put_added-requires c =
     let t : List ℕ = c.args.new.now in
     let p : StringPool = c.args.p in
     let spot : Spot = c.in-At.spot in
-    let Found : tie.After-known-told2 → Type 0 = λ c. Spotted c p W t spot.place spot.start spot.used in
-    let found-by : Legal c → (c : tie.After-known-told2) → IsChosen c p W t c.args.choice → Found c = λ legal c is. spotted c p W t legal (sym (ap chosen_as c.before.choice2.given.1) ∙ is) in
-    let found : Found c.requires.chooser c = found-by c.requires.chooser c.requires.legal c c.requires.is in
+    let Found : Chooser → Type 0 = λ by. Spotted by p W t spot.place spot.start spot.used in
+    let found-by : (by : Chooser) → Legal by → IsChosen by p W t c.args.choice → Found by = λ by legal is. spotted by p W t legal (sym (ap chosen_as c.in-At.is) ∙ is) in
+    let found : Found c.requires.chooser = found-by c.requires.chooser c.requires.legal c.requires.is in
     let q = found.known in
     (omega (arith, q.sum, q.fit.text, q.large), q.small)
 
@@ -31,10 +31,10 @@ returns-then-at-n c =
     let t : List ℕ = c.args.new.now in
     let p : StringPool = c.args.p in
     let spot : Spot = c.in-At.spot in
-    let Found : tie.After-known-told2 → Type 0 = λ c. Spotted c p W t spot.place spot.start spot.used in
-    let found-by : Legal c → (c : tie.After-known-told2) → IsChosen c p W t c.args.choice → Found c = λ legal c is. spotted c p W t legal (sym (ap chosen_as c.before.choice2.given.1) ∙ is) in
+    let Found : Chooser → Type 0 = λ by. Spotted by p W t spot.place spot.start spot.used in
+    let found-by : (by : Chooser) → Legal by → IsChosen by p W t c.args.choice → Found by = λ by legal is. spotted by p W t legal (sym (ap chosen_as c.in-At.is) ∙ is) in
     λ by legal is.
-    let q = found-by by legal c is in
+    let q = found-by by legal is in
     let e : p.num_strings ≡ spot.place = omega (arith, c.if-at-n.true, q.within) in
     taken_at q (subst (λ (k : ℕ). At p W t k c.put_added.result) e (c.put_added.ensures W t q.known c.entry_room-entries.ensures))
 
@@ -44,9 +44,9 @@ offset_bounds-counts-at c =
     let t : List ℕ = c.args.new.now in
     let p : StringPool = c.args.p in
     let spot : Spot = c.in-At.spot in
-    let Found : tie.After-known-told2 → Type 0 = λ c. Spotted c p W t spot.place spot.start spot.used in
-    let found-by : Legal c → (c : tie.After-known-told2) → IsChosen c p W t c.args.choice → Found c = λ legal c is. spotted c p W t legal (sym (ap chosen_as c.before.choice2.given.1) ∙ is) in
-    let found : Found c.requires.chooser c = found-by c.requires.chooser c.requires.legal c c.requires.is in
+    let Found : Chooser → Type 0 = λ by. Spotted by p W t spot.place spot.start spot.used in
+    let found-by : (by : Chooser) → Legal by → IsChosen by p W t c.args.choice → Found by = λ by legal is. spotted by p W t legal (sym (ap chosen_as c.in-At.is) ∙ is) in
+    let found : Found c.requires.chooser = found-by c.requires.chooser c.requires.legal c.requires.is in
     let q = found in omega (arith, q.within, q.known.few)
 
 pub bounds-counts-at : goal.bounds-counts-at
@@ -55,9 +55,9 @@ bounds-counts-at c =
     let t : List ℕ = c.args.new.now in
     let p : StringPool = c.args.p in
     let spot : Spot = c.in-At.spot in
-    let Found : tie.After-known-told2 → Type 0 = λ c. Spotted c p W t spot.place spot.start spot.used in
-    let found-by : Legal c → (c : tie.After-known-told2) → IsChosen c p W t c.args.choice → Found c = λ legal c is. spotted c p W t legal (sym (ap chosen_as c.before.choice2.given.1) ∙ is) in
-    let found : Found c.requires.chooser c = found-by c.requires.chooser c.requires.legal c c.requires.is in
+    let Found : Chooser → Type 0 = λ by. Spotted by p W t spot.place spot.start spot.used in
+    let found-by : (by : Chooser) → Legal by → IsChosen by p W t c.args.choice → Found by = λ by legal is. spotted by p W t legal (sym (ap chosen_as c.in-At.is) ∙ is) in
+    let found : Found c.requires.chooser = found-by c.requires.chooser c.requires.legal c.requires.is in
     omega (arith, c.if-at-n.false, found.known.fit.counts)
 
 pub overflow_add-result : goal.overflow_add-result
@@ -66,9 +66,9 @@ overflow_add-result c =
     let t : List ℕ = c.args.new.now in
     let p : StringPool = c.args.p in
     let spot : Spot = c.in-At.spot in
-    let Found : tie.After-known-told2 → Type 0 = λ c. Spotted c p W t spot.place spot.start spot.used in
-    let found-by : Legal c → (c : tie.After-known-told2) → IsChosen c p W t c.args.choice → Found c = λ legal c is. spotted c p W t legal (sym (ap chosen_as c.before.choice2.given.1) ∙ is) in
-    let found : Found c.requires.chooser c = found-by c.requires.chooser c.requires.legal c c.requires.is in
+    let Found : Chooser → Type 0 = λ by. Spotted by p W t spot.place spot.start spot.used in
+    let found-by : (by : Chooser) → Legal by → IsChosen by p W t c.args.choice → Found by = λ by legal is. spotted by p W t legal (sym (ap chosen_as c.in-At.is) ∙ is) in
+    let found : Found c.requires.chooser = found-by c.requires.chooser c.requires.legal c.requires.is in
     omega (arith, found.below c.if-at-n.false c.if-count-gt0.true)
 
 pub returns-then-count-gt0 : goal.returns-then-count-gt0
@@ -77,10 +77,10 @@ returns-then-count-gt0 c =
     let t : List ℕ = c.args.new.now in
     let p : StringPool = c.args.p in
     let spot : Spot = c.in-At.spot in
-    let Found : tie.After-known-told2 → Type 0 = λ c. Spotted c p W t spot.place spot.start spot.used in
-    let found-by : Legal c → (c : tie.After-known-told2) → IsChosen c p W t c.args.choice → Found c = λ legal c is. spotted c p W t legal (sym (ap chosen_as c.before.choice2.given.1) ∙ is) in
+    let Found : Chooser → Type 0 = λ by. Spotted by p W t spot.place spot.start spot.used in
+    let found-by : (by : Chooser) → Legal by → IsChosen by p W t c.args.choice → Found by = λ by legal is. spotted by p W t legal (sym (ap chosen_as c.in-At.is) ∙ is) in
     λ by legal is.
-    let q = found-by by legal c is in
+    let q = found-by by legal is in
     taken_at q (equal-done p W q.known.fit t spot.place c.if-at-n.false q.known.few c.if-count-gt0.true _ (omega arith))
 
 pub offset_bounds-lengths-at : goal.offset_bounds-lengths-at
@@ -89,9 +89,9 @@ offset_bounds-lengths-at c =
     let t : List ℕ = c.args.new.now in
     let p : StringPool = c.args.p in
     let spot : Spot = c.in-At.spot in
-    let Found : tie.After-known-told2 → Type 0 = λ c. Spotted c p W t spot.place spot.start spot.used in
-    let found-by : Legal c → (c : tie.After-known-told2) → IsChosen c p W t c.args.choice → Found c = λ legal c is. spotted c p W t legal (sym (ap chosen_as c.before.choice2.given.1) ∙ is) in
-    let found : Found c.requires.chooser c = found-by c.requires.chooser c.requires.legal c c.requires.is in
+    let Found : Chooser → Type 0 = λ by. Spotted by p W t spot.place spot.start spot.used in
+    let found-by : (by : Chooser) → Legal by → IsChosen by p W t c.args.choice → Found by = λ by legal is. spotted by p W t legal (sym (ap chosen_as c.in-At.is) ∙ is) in
+    let found : Found c.requires.chooser = found-by c.requires.chooser c.requires.legal c.requires.is in
     omega (arith, c.if-at-n.false, found.known.few)
 
 pub bounds-lengths-at : goal.bounds-lengths-at
@@ -100,9 +100,9 @@ bounds-lengths-at c =
     let t : List ℕ = c.args.new.now in
     let p : StringPool = c.args.p in
     let spot : Spot = c.in-At.spot in
-    let Found : tie.After-known-told2 → Type 0 = λ c. Spotted c p W t spot.place spot.start spot.used in
-    let found-by : Legal c → (c : tie.After-known-told2) → IsChosen c p W t c.args.choice → Found c = λ legal c is. spotted c p W t legal (sym (ap chosen_as c.before.choice2.given.1) ∙ is) in
-    let found : Found c.requires.chooser c = found-by c.requires.chooser c.requires.legal c c.requires.is in
+    let Found : Chooser → Type 0 = λ by. Spotted by p W t spot.place spot.start spot.used in
+    let found-by : (by : Chooser) → Legal by → IsChosen by p W t c.args.choice → Found by = λ by legal is. spotted by p W t legal (sym (ap chosen_as c.in-At.is) ∙ is) in
+    let found : Found c.requires.chooser = found-by c.requires.chooser c.requires.legal c.requires.is in
     omega (arith, c.if-at-n.false, found.known.fit.lengths)
 
 pub put_free-requires : goal.put_free-requires
@@ -111,9 +111,9 @@ put_free-requires c =
     let spot : Spot = c.in-At.spot in
     let W : Rooms = rooms c.args.lengths.now c.args.counts.now c.args.text.now in
     let t : List ℕ = c.args.new.now in
-    let Found : tie.After-known-told2 → Type 0 = λ c. Spotted c p W t spot.place spot.start spot.used in
-    let found-by : Legal c → (c : tie.After-known-told2) → IsChosen c p W t c.args.choice → Found c = λ legal c is. spotted c p W t legal (sym (ap chosen_as c.before.choice2.given.1) ∙ is) in
-    let found : Found c.requires.chooser c = found-by c.requires.chooser c.requires.legal c c.requires.is in
+    let Found : Chooser → Type 0 = λ by. Spotted by p W t spot.place spot.start spot.used in
+    let found-by : (by : Chooser) → Legal by → IsChosen by p W t c.args.choice → Found by = λ by legal is. spotted by p W t legal (sym (ap chosen_as c.in-At.is) ∙ is) in
+    let found : Found c.requires.chooser = found-by c.requires.chooser c.requires.legal c.requires.is in
     let q = found.known in
     let h = c.if-at-n.false in
     (omega (arith, h, q.few), omega (arith, q.sum, total-in c.args.lengths.now spot.place p.num_strings h q.fit.lengths), omega (arith, q.sum, q.fit.text, q.large), q.small)
@@ -124,8 +124,8 @@ returns-else-count-gt0 c =
     let t : List ℕ = c.args.new.now in
     let p : StringPool = c.args.p in
     let spot : Spot = c.in-At.spot in
-    let Found : tie.After-known-told2 → Type 0 = λ c. Spotted c p W t spot.place spot.start spot.used in
-    let found-by : Legal c → (c : tie.After-known-told2) → IsChosen c p W t c.args.choice → Found c = λ legal c is. spotted c p W t legal (sym (ap chosen_as c.before.choice2.given.1) ∙ is) in
+    let Found : Chooser → Type 0 = λ by. Spotted by p W t spot.place spot.start spot.used in
+    let found-by : (by : Chooser) → Legal by → IsChosen by p W t c.args.choice → Found by = λ by legal is. spotted by p W t legal (sym (ap chosen_as c.in-At.is) ∙ is) in
     λ by legal is.
-    let q = found-by by legal c is in
+    let q = found-by by legal is in
     taken_at q (c.put_free.ensures W t q.known (record { within = c.if-at-n.false; free = omega (arith, c.if-count-gt0.false); begins = q.begins; long = refl }))

@@ -5,7 +5,7 @@ use Rattle.std.proofs.Common.{rules}
 use Rattle.stringpool.proofs.takes.put_added.Goals as goal
 
 pub returns-in-Refused : goal.returns-in-Refused
-returns-in-Refused c = λ w t q r. not_added c.args.p _ _ _ _ w t q r _ (sym (ap fits_as c.fits-1.given.1) ∙ c.add_fits-fits.ensures)
+returns-in-Refused c = λ w t q r. not_added c.args.p _ _ _ _ w t q r _ (sym (ap fits_as c.in-Refused.is) ∙ c.add_fits-fits.ensures)
 
 pub returns-in-Yes : goal.returns-in-Yes
 returns-in-Yes c = λ w t q r. added c.args.p _ _ _ _ w t q r (sym (ap fits_as c.in-Yes.is) ∙ c.add_fits-fits.ensures)

@@ -29,8 +29,8 @@ returns-then-at-self c =
     let passed : Passed n c.args.self.codepage W = call_passed n c.args.self.codepage W Used (sym (ap judged_as c.in-Sound.is) ∙ c.judge-state.ensures) in
     let k : ℕ = c.in-At.place.0 in
     let Text : ℕ → Answer (List ℕ) = λ k. gives (get_or (entries_of c.args.self W) k none).text in
-    let answers : a ≡ on_reference (to_z w32 (of_z w32 c.args.number)) gives → on_given a Text ≡ show_answer c.args.self W c.args.number = λ h. on_number c.args.self W c.args.number _ (to_z-of_z w32 c.args.number (search rules)) (sym (ap judged_as c.in-Sound.is) ∙ c.judge-state.ensures) Text h in
-    let shown : (get_or (entries_of c.args.self W) k none).text ≡ or_empty (show_answer c.args.self W c.args.number) = ap or_empty (answers (sym (ap placed_as c.in-At.is) ∙ c.place-placed.ensures)) in
+    let answers : (a : Answer ℕ) → a ≡ on_reference (to_z w32 (of_z w32 c.args.number)) gives → on_given a Text ≡ show_answer c.args.self W c.args.number = λ a h. on_number c.args.self W c.args.number _ (to_z-of_z w32 c.args.number (search rules)) (sym (ap judged_as c.in-Sound.is) ∙ c.judge-state.ensures) Text h in
+    let shown : (get_or (entries_of c.args.self W) k none).text ≡ or_empty (show_answer c.args.self W c.args.number) = ap or_empty (answers _ (sym (ap placed_as c.in-At.is) ∙ c.place-placed.ensures)) in
     text-past n W passed.fit k c.if-at-self.true ∙ shown
 
 pub start_of-start-requires : goal.start_of-start-requires
@@ -61,7 +61,7 @@ overflow_add-end c =
     let small : length c.args.text.now ≤ 268435455 = call_size n c.args.self.codepage W Used (sym (ap judged_as c.in-Sound.is) ∙ c.judge-state.ensures) in
     let k : ℕ = c.in-At.place.0 in
     let f = passed.fit in
-    omega (arith, c.start_of_lem.ensures, f.text, small, total-in c.args.lengths.now k n c.if-at-self.false f.lengths)
+    omega (arith, c.start_of-start.ensures, f.text, small, total-in c.args.lengths.now k n c.if-at-self.false f.lengths)
 
 pub slice_bounds-result-end-2 : goal.slice_bounds-result-end-2
 slice_bounds-result-end-2 c = ?
@@ -74,9 +74,9 @@ returns c =
     let passed : Passed n c.args.self.codepage W = call_passed n c.args.self.codepage W Used (sym (ap judged_as c.in-Sound.is) ∙ c.judge-state.ensures) in
     let k : ℕ = c.in-At.place.0 in
     let Text : ℕ → Answer (List ℕ) = λ k. gives (get_or (entries_of c.args.self W) k none).text in
-    let answers : a ≡ on_reference (to_z w32 (of_z w32 c.args.number)) gives → on_given a Text ≡ show_answer c.args.self W c.args.number = λ h. on_number c.args.self W c.args.number _ (to_z-of_z w32 c.args.number (search rules)) (sym (ap judged_as c.in-Sound.is) ∙ c.judge-state.ensures) Text h in
-    let shown : (get_or (entries_of c.args.self W) k none).text ≡ or_empty (show_answer c.args.self W c.args.number) = ap or_empty (answers (sym (ap placed_as c.in-At.is) ∙ c.place-placed.ensures)) in
+    let answers : (a : Answer ℕ) → a ≡ on_reference (to_z w32 (of_z w32 c.args.number)) gives → on_given a Text ≡ show_answer c.args.self W c.args.number = λ a h. on_number c.args.self W c.args.number _ (to_z-of_z w32 c.args.number (search rules)) (sym (ap judged_as c.in-Sound.is) ∙ c.judge-state.ensures) Text h in
+    let shown : (get_or (entries_of c.args.self W) k none).text ≡ or_empty (show_answer c.args.self W c.args.number) = ap or_empty (answers _ (sym (ap placed_as c.in-At.is) ∙ c.place-placed.ensures)) in
     let size : ℕ = get_or c.args.lengths.now k 0 in
-    let e : c.start_of_lem.result + size - c.start_of_lem.result ≡ size = omega arith in
-    ap₂ (λ (i j : ℕ). take i (drop j c.args.text.now)) e c.start_of_lem.ensures
+    let e : c.start_of-start.result + size - c.start_of-start.result ≡ size = omega arith in
+    ap₂ (λ (i j : ℕ). take i (drop j c.args.text.now)) e c.start_of-start.ensures
     ∙ sym (ap (λ (x : Entry). x.text) (entry-at n W passed.fit k c.if-at-self.false)) ∙ shown

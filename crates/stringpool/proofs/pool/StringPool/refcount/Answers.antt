@@ -34,5 +34,5 @@ returns-in-At c =
     let Used : ℕ = total (take n c.args.lengths.now) in
     let fit : Fit n W = (call_passed n c.args.self.codepage W Used (sym (ap judged_as c.in_default.is) ∙ c.judge-state.ensures)).fit in
     let Count : ℕ → Answer ℕ = λ k. gives (get_or (entries_of c.args.self W) k none).count in
-    let answers : a ≡ on_reference (to_z w32 (of_z w32 c.args.number)) gives → on_given a Count ≡ refcount_answer c.args.self W c.args.number = λ h. on_number c.args.self W c.args.number _ (to_z-of_z w32 c.args.number (search rules)) (sym (ap judged_as c.in_default.is) ∙ c.judge-state.ensures) Count h in
-    ap gives (c.count_of.ensures ∙ count_same n W fit _) ∙ answers (sym (ap placed_as c.in-At.is) ∙ c.place-placed.ensures)
+    let answers : (a : Answer ℕ) → a ≡ on_reference (to_z w32 (of_z w32 c.args.number)) gives → on_given a Count ≡ refcount_answer c.args.self W c.args.number = λ a h. on_number c.args.self W c.args.number _ (to_z-of_z w32 c.args.number (search rules)) (sym (ap judged_as c.in_default.is) ∙ c.judge-state.ensures) Count h in
+    ap gives (c.count_of.ensures ∙ count_same n W fit _) ∙ answers _ (sym (ap placed_as c.in-At.is) ∙ c.place-placed.ensures)

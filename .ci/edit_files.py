@@ -68,9 +68,10 @@ def function_at(top, crate, file, line):
 
 
 def place(top, crate, words):
-    """Where the prover stopped first, by what `rt` said of the refusal: the function or the file of lemmas, and the goal or the lemma in it."""
-    if found := re.match(r'note: src/(\S+?)\.rt:(\d+):\d+: .*?\(`([^`]+)`\)', words):
-        return function_at(top, crate, found.group(1), int(found.group(2))), found.group(3)
+    """Where the prover stopped first, by what `rt` said of the refusal: the function or the file of lemmas, and the goal or the lemma in it.
+    `rt` gives 160 characters of its message: a goal that they cut ends in `..`."""
+    if found := re.match(r'note: src/(\S+?)\.rt:(\d+):\d+: .*?\(`([^`]+)(`\))?', words):
+        return function_at(top, crate, found.group(1), int(found.group(2))), found.group(3) + ('' if found.group(4) else '..')
     if found := re.match(r'(?:\./)?proofs/(\S+)/(?:Answers|Invariants|Proof)\.antt:\d+:\d+: error: `([^`]+)`', words):
         return f'{crate}::{found.group(1).replace("/", "::")}', found.group(2)
     if found := re.match(r'(?:\./)?(proofs/\S+)\.antt:\d+:\d+: error: `([^`]+)`', words):
@@ -88,7 +89,8 @@ def off_its_fact(top, name, text, words, optional=False):
     if not words.startswith(REFUSED):
         return [f'{name} is not refused at its fact: {words}']
     stopped = place(top, name.split('/')[0], words.removeprefix(REFUSED))
-    if stopped != fact.groups():
+    is_at = stopped and stopped[0] == fact[1] and (stopped[1] == fact[2] or stopped[1].endswith('..') and fact[2].startswith(stopped[1][:-2]))
+    if not is_at:
         return [f'{name} is refused first at {" ".join(stopped) if stopped else words.removeprefix(REFUSED)}, and its fact is {" ".join(fact.groups())}']
     return []
 

@@ -23,7 +23,7 @@ pub(crate) fn write_column(
     out: &mut [u8],
 )
     requires { Storable form kinds.now numbers.now run (length out.old) }
-    ensures { out.new ≡ plain (form_bytes form kinds.now numbers.now run) 0 run.rows over (λ x. x.now) out.entry }
+    ensures { out.new ≡ plain (form_bytes form kinds.now numbers.now run) 0 run.rows over out.old }
 {
     match form {
         CellForm::Int16 => write_cells(CellForm::Int16, kinds, numbers, run, out),
@@ -36,7 +36,7 @@ pub(crate) fn write_column(
 
 fn write_cells(form: CellForm, kinds: &[u8], numbers: &[i32], run: Stride, out: &mut [u8])
     requires { Storable form kinds.now numbers.now run (length out.old) }
-    ensures { out.new ≡ plain (form_bytes form kinds.now numbers.now run) 0 run.rows over (λ x. x.now) out.entry }
+    ensures { out.new ≡ plain (form_bytes form kinds.now numbers.now run) 0 run.rows over out.old }
 {
     let width = form.width();
     let step = run.step;

@@ -120,7 +120,7 @@ fn read_found(
 // Reads the rows band after band: the cells of a band stay near while its columns are read one after the other.
 fn read_bands(table: Table, places: Places, stream: &[u8], kinds: &mut [u8], numbers: &mut [i32])
     requires { Lies table places (length stream.now) × (places.rows * table.count ≤ length kinds.old) × (places.rows * table.count ≤ length numbers.old) }
-    ensures { (kinds.new ≡ row_by_row (λ i c. (cell_at (types_of table) table.long_string_refs places.rows stream.now i c).0) places.rows table.count over (λ x. x.now) kinds.entry) × (numbers.new ≡ row_by_row (λ i c. (cell_at (types_of table) table.long_string_refs places.rows stream.now i c).1) places.rows table.count over (λ x. x.now) numbers.entry) }
+    ensures { (kinds.new ≡ row_by_row (λ i c. (cell_at (types_of table) table.long_string_refs places.rows stream.now i c).0) places.rows table.count over kinds.old) × (numbers.new ≡ row_by_row (λ i c. (cell_at (types_of table) table.long_string_refs places.rows stream.now i c).1) places.rows table.count over numbers.old) }
 {
     let count = table.count;
     let rows = places.rows;

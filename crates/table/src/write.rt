@@ -84,7 +84,7 @@ fn judge_columns(table: Table, rows: usize, kinds: &[u8], numbers: &[i32]) -> Fi
 // Writes the columns one after the other, each to its own stretch.
 fn write_columns(table: Table, rows: usize, kinds: &[u8], numbers: &[i32], out: &mut [u8])
     requires { (table.count ≤ 64) × (rows ≤ 65536) × (length kinds.now ≡ rows * table.count) × (length numbers.now ≡ rows * table.count) × (rows * row_size_lem (types_of table) table.long_string_refs ≤ length out.old) × (refusal_of (table_bytes (types_of table) table.long_string_refs rows (record { kinds = kinds.now; numbers = numbers.now })) ≡ gives tt) }
-    ensures { out.new ≡ plain (column_bytes (types_of table) table.long_string_refs rows (record { kinds = kinds.entry.now; numbers = numbers.now })) 0 table.count over (λ x. x.now) out.entry }
+    ensures { out.new ≡ plain (column_bytes (types_of table) table.long_string_refs rows (record { kinds = kinds.entry.now; numbers = numbers.now })) 0 table.count over out.old }
 {
     let count = table.count;
     let mut at = 0;

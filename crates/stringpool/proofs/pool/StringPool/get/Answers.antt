@@ -64,7 +64,15 @@ overflow_add-end c =
     omega (arith, c.start_of-start.ensures, f.text, small, total-in c.args.lengths.now k n c.if-at-self.false f.lengths)
 
 pub slice_bounds-result-end-2 : goal.slice_bounds-result-end-2
-slice_bounds-result-end-2 c = ?
+slice_bounds-result-end-2 c =
+    let n : ℕ = c.args.self.num_strings in
+    let W : Rooms = rooms c.args.lengths.now c.args.counts.now c.args.text.now in
+    let Used : ℕ = total (take n c.args.lengths.now) in
+    let passed : Passed n c.args.self.codepage W = call_passed n c.args.self.codepage W Used (sym (ap judged_as c.in-Sound.is) ∙ c.judge-state.ensures) in
+    let small : length c.args.text.now ≤ 268435455 = call_size n c.args.self.codepage W Used (sym (ap judged_as c.in-Sound.is) ∙ c.judge-state.ensures) in
+    let k : ℕ = c.in-At.place.0 in
+    let f = passed.fit in
+    omega (arith, c.start_of-start.ensures, f.text, small, total-in c.args.lengths.now k n c.if-at-self.false f.lengths)
 
 pub returns : goal.returns
 returns c =

@@ -1,9 +1,0 @@
-use borrow.Author.Rules.{rules}
-use Rattle.pool_values.proofs.plain_of.Statement.{statement}
-use Rattle.pool_values.proofs.plain_of.Tie as tie
-
-pub plain-of-spec : {M : Type 1} → statement M
-plain-of-spec =
-    tie.close
-    (tie.spec (λ c. search rules) (λ c. search rules) (λ c. search rules) (λ c. search rules) (λ c. search rules)
-    (λ c. rw c.before.value.given.1 (search rules)) (λ c. search rules) (λ c. search rules))

@@ -63,6 +63,11 @@ def function_at(top, crate, file, line):
             owner, function = found.group(1), None
         elif found := re.match(r'( {4})?(?:pub )?(?:pub\(crate\) )?(?:extern "C" )?fn (\w+)', text):
             function = f'{owner}::{found.group(2)}' if found.group(1) else found.group(2)
+    # (a type's functions are named by the file that declares it)
+    if function and '::' in function:
+        declared = [os.path.relpath(path, f'{top}/crates/{crate}/src')[:-3] for path in glob.glob(f'{top}/crates/{crate}/src/**/*.rt', recursive=True)
+                    if re.search(rf'^(?:pub )?(?:pub\(crate\) )?(?:struct|enum) {owner}\b', read(path), re.M)]
+        file = declared[0] if len(declared) == 1 else file
     module = '' if file in ('lib', 'main') else '::' + file.replace('/', '::')
     return f'{crate}{module}::{function}'
 

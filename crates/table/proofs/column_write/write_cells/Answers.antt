@@ -79,7 +79,7 @@ loop-row-preserved c =
       omega arith,
       rw next-is (omega arith),
       rw next-is (omega arith),
-      same_len_mid l.at k l.out c.write.new.out c.write.auto.1.1.0 ∙ l.invariant.3,
+      same_len_mid l.at k l.out c.write.new.out c.write.auto.out ∙ l.invariant.3,
       rw left (over_next bytes rest l.out l.at w (omega arith) size)
           ∙ ap (λ (x : List ℕ). over_at l.at x l.out) (sym (plain_turn f l.row c.args.run.rows c.loop-row-test.true))
           ∙ l.invariant.4,

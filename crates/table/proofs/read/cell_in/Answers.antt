@@ -13,7 +13,7 @@ use Rattle.table.proofs.read.cell_in.Goals as goal
 
 pub overflow_add-start : goal.overflow_add-start
 overflow_add-start c =
-    let whole : length c.args.table.columns ≡ 64 = rw length-map at c.well_formed.0.1.1.0.1.0.1 in
+    let whole : length c.args.table.columns ≡ 64 = c.well_formed.0.1.1.0.1.0.1 in
     let width_is : get_or c.args.places.widths c.args.column 0 ≡ width (type_at (types_of c.args.table) c.args.column) c.args.table.long_string_refs = column-width c.args.table c.args.places _ c.requires.0 whole c.args.column c.requires.2 in
     let start_is : get_or c.args.places.starts c.args.column 0 ≡ c.args.places.rows * row_size_lem (take c.args.column (types_of c.args.table)) c.args.table.long_string_refs = column-start c.args.table c.args.places _ c.requires.0 whole c.args.column c.requires.2 in
     let few : c.args.places.rows * row_size_lem (take c.args.column (types_of c.args.table)) c.args.table.long_string_refs + c.args.row * width (type_at (types_of c.args.table) c.args.column) c.args.table.long_string_refs ≤ 16777216 = let w = width (type_at (types_of c.args.table) c.args.column) c.args.table.long_string_refs in omega (arith, inside c.args.table c.args.places _ c.requires.0 whole c.args.column c.requires.2, small c.args.table c.args.places _ c.requires.0 whole c.args.column c.requires.2, mul-le-mul_right {m = c.args.row} {n = c.args.places.rows} w (omega (arith, c.requires.1))) in
@@ -21,7 +21,7 @@ overflow_add-start c =
 
 pub returns : goal.returns
 returns c =
-    let whole : length c.args.table.columns ≡ 64 = rw length-map at c.well_formed.0.1.1.0.1.0.1 in
+    let whole : length c.args.table.columns ≡ 64 = c.well_formed.0.1.1.0.1.0.1 in
     let width_is : get_or c.args.places.widths c.args.column 0 ≡ width (type_at (types_of c.args.table) c.args.column) c.args.table.long_string_refs = column-width c.args.table c.args.places _ c.requires.0 whole c.args.column c.requires.2 in
     let start_is : get_or c.args.places.starts c.args.column 0 ≡ c.args.places.rows * row_size_lem (take c.args.column (types_of c.args.table)) c.args.table.long_string_refs = column-start c.args.table c.args.places _ c.requires.0 whole c.args.column c.requires.2 in
     let t = c.args.table in

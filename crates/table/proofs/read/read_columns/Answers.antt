@@ -25,7 +25,7 @@ use Rattle.table.proofs.read.read_columns.Goals as goal
 
 pub overflow_mul-from : goal.overflow_mul-from
 overflow_mul-from c =
-    let whole : length c.args.table.columns ≡ 64 = rw length-map at c.well_formed.0.1.1.0.1.0.1 in
+    let whole : length c.args.table.columns ≡ 64 = c.well_formed.0.1.1.0.1.0.1 in
     let wide : ℕ = let t = c.args.table in width (type_at (types_of t) c.loop-c.c) t.long_string_refs in
     let width_is : get_or c.args.places.widths c.loop-c.c 0 ≡ wide = column-width c.args.table c.args.places _ c.requires.0 whole c.loop-c.c c.loop-c-test.true in
     let before : ℕ = let t = c.args.table in row_size_lem (take c.loop-c.c (types_of t)) t.long_string_refs in
@@ -35,7 +35,7 @@ overflow_mul-from c =
 
 pub overflow_add-from : goal.overflow_add-from
 overflow_add-from c =
-    let whole : length c.args.table.columns ≡ 64 = rw length-map at c.well_formed.0.1.1.0.1.0.1 in
+    let whole : length c.args.table.columns ≡ 64 = c.well_formed.0.1.1.0.1.0.1 in
     let wide : ℕ = let t = c.args.table in width (type_at (types_of t) c.loop-c.c) t.long_string_refs in
     let width_is : get_or c.args.places.widths c.loop-c.c 0 ≡ wide = column-width c.args.table c.args.places _ c.requires.0 whole c.loop-c.c c.loop-c-test.true in
     let before : ℕ = let t = c.args.table in row_size_lem (take c.loop-c.c (types_of t)) t.long_string_refs in
@@ -49,7 +49,7 @@ loop-c-preserved c =
     let before : ℕ = let t = c.args.table in row_size_lem (take c.loop-c.c (types_of t)) t.long_string_refs in
     let wide : ℕ = let t = c.args.table in width (type_at (types_of t) c.loop-c.c) t.long_string_refs in
     let rowsHere : ℕ = c.args.places.rows in
-    let whole : length c.args.table.columns ≡ 64 = rw length-map at c.well_formed.0.1.1.0.1.0.1 in
+    let whole : length c.args.table.columns ≡ 64 = c.well_formed.0.1.1.0.1.0.1 in
     let width_is : get_or c.args.places.widths c.loop-c.c 0 ≡ wide = column-width c.args.table c.args.places _ c.requires.0 whole c.loop-c.c c.loop-c-test.true in
     let start_is : get_or c.args.places.starts c.loop-c.c 0 ≡ rowsHere * before = column-start c.args.table c.args.places _ c.requires.0 whole c.loop-c.c c.loop-c-test.true in
     let within : (rowsHere * before + (c.args.band.first * wide + c.args.band.rows * wide) ≤ length c.args.stream.now) × (rowsHere * before + c.args.band.first * wide ≤ 16777216) = let in_rows = inside c.args.table c.args.places _ c.requires.0 whole c.loop-c.c c.loop-c-test.true in let band = mul-le-mul_right wide c.requires.1 in let sum = add-mul c.args.band.first c.args.band.rows wide in (omega (arith, c.requires.0.within), omega (arith, small c.args.table c.args.places _ c.requires.0 whole c.loop-c.c c.loop-c-test.true)) in

@@ -23,7 +23,7 @@ pub returns-in-Refused : goal.returns-in-Refused
 returns-in-Refused c =
     let cells_of : Cells = record { kinds = c.args.kinds.now; numbers = c.args.numbers.now } in
     let bytes_in : ℕ → Answer (List ℕ) = column_bytes (types_of c.args.table) c.args.table.long_string_refs c.args.rows cells_of in
-    let count-is : length (types_of c.args.table) ≡ c.args.table.count = types_count c.args.table c.requires.0 (rw length-map at c.well_formed.0.1.1.0.1.0.1) in
+    let count-is : length (types_of c.args.table) ≡ c.args.table.count = types_count c.args.table c.requires.0 (c.well_formed.0.1.1.0.1.0.1) in
     let whole : refusal_of (each bytes_in (from 0 c.args.table.count)) ≡ refusal_of (table_bytes (types_of c.args.table) c.args.table.long_string_refs c.args.rows cells_of) = ap (λ (n : ℕ). refusal_of (each bytes_in (from 0 n))) (sym count-is) ∙ sym (table_judged (types_of c.args.table) c.args.table.long_string_refs c.args.rows cells_of) in
     let said : refusal_of (bytes_in c.loop-c.c) ≡ fits_as c.judge_column-verdict.result = let l = c.loop-c in
     let t = c.args.table in
@@ -40,7 +40,7 @@ pub loop-c-preserved : goal.loop-c-preserved
 loop-c-preserved c =
     let cells_of : Cells = record { kinds = c.args.kinds.now; numbers = c.args.numbers.now } in
     let bytes_in : ℕ → Answer (List ℕ) = column_bytes (types_of c.args.table) c.args.table.long_string_refs c.args.rows cells_of in
-    let count-is : length (types_of c.args.table) ≡ c.args.table.count = types_count c.args.table c.requires.0 (rw length-map at c.well_formed.0.1.1.0.1.0.1) in
+    let count-is : length (types_of c.args.table) ≡ c.args.table.count = types_count c.args.table c.requires.0 (c.well_formed.0.1.1.0.1.0.1) in
     let said : refusal_of (bytes_in c.loop-c.c) ≡ fits_as c.judge_column-verdict.result = let l = c.loop-c in
     let t = c.args.table in
     let f = form_for (type_at (types_of t) l.c) t.long_string_refs in

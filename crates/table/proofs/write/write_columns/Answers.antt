@@ -28,24 +28,27 @@ use Rattle.table.proofs.write.write_columns.Goals as goal
 pub loop-c-init : goal.loop-c-init
 loop-c-init c =
     let cells_of : Cells = record { kinds = c.args.kinds.now; numbers = c.args.numbers.now } in
-    let count-is : length (types_of c.args.table) ≡ c.args.table.count = types_count c.args.table c.requires.0 (rw length-map at c.well_formed.0.1.1.0.1.0.1) in
+    let count-is : length (types_of c.args.table) ≡ c.args.table.count = types_count c.args.table c.requires.0 (c.well_formed.0.1.1.0.1.0.1) in
     let t = c.args.table in
     let h = sym (table_judged (types_of t) t.long_string_refs c.args.rows cells_of) ∙ c.requires.5 in
     (omega arith, sym (mul-zero c.args.rows), refl, rw sub-zero, rw sub-zero (rw count-is at h))
 
 pub slice_bounds-write_column-count : goal.slice_bounds-write_column-count
 slice_bounds-write_column-count c =
-    let count-is : length (types_of c.args.table) ≡ c.args.table.count = types_count c.args.table c.requires.0 (rw length-map at c.well_formed.0.1.1.0.1.0.1) in
+    let count-is : length (types_of c.args.table) ≡ c.args.table.count = types_count c.args.table c.requires.0 (c.well_formed.0.1.1.0.1.0.1) in
     let room : c.loop-c.at + c.args.rows * width (type_at (types_of c.args.table) c.loop-c.c) c.args.table.long_string_refs ≤ length c.loop-c.out = let t = c.args.table in let n = count-is in omega (arith, column-within (types_of t) t.long_string_refs c.args.rows c.loop-c.c (omega arith), c.requires.4) in
     omega (arith, room)
 
 pub slice_bounds-write_column-start : goal.slice_bounds-write_column-start
-slice_bounds-write_column-start c = ?
+slice_bounds-write_column-start c =
+    let count-is : length (types_of c.args.table) ≡ c.args.table.count = types_count c.args.table c.requires.0 (c.well_formed.0.1.1.0.1.0.1) in
+    let room : c.loop-c.at + c.args.rows * width (type_at (types_of c.args.table) c.loop-c.c) c.args.table.long_string_refs ≤ length c.loop-c.out = let t = c.args.table in let n = count-is in omega (arith, column-within (types_of t) t.long_string_refs c.args.rows c.loop-c.c (omega arith), c.requires.4) in
+    omega (arith, room)
 
 pub write_column-requires : goal.write_column-requires
 write_column-requires c =
     let cells_of : Cells = record { kinds = c.args.kinds.now; numbers = c.args.numbers.now } in
-    let count-is : length (types_of c.args.table) ≡ c.args.table.count = types_count c.args.table c.requires.0 (rw length-map at c.well_formed.0.1.1.0.1.0.1) in
+    let count-is : length (types_of c.args.table) ≡ c.args.table.count = types_count c.args.table c.requires.0 (c.well_formed.0.1.1.0.1.0.1) in
     let room : c.loop-c.at + c.args.rows * width (type_at (types_of c.args.table) c.loop-c.c) c.args.table.long_string_refs ≤ length c.loop-c.out = let t = c.args.table in let n = count-is in omega (arith, column-within (types_of t) t.long_string_refs c.args.rows c.loop-c.c (omega arith), c.requires.4) in
     let bytes_in : ℕ → Answer (List ℕ) = column_bytes (types_of c.args.table) c.args.table.long_string_refs c.args.rows cells_of in
     let fine-now : (refusal_of (bytes_in c.loop-c.c) ≡ gives tt) × (refusal_of (each bytes_in (from (c.loop-c.c + 1) (c.args.table.count - (c.loop-c.c + 1)))) ≡ gives tt) = let l = c.loop-c in fine-first bytes_in l.c (from (l.c + 1) (c.args.table.count - (l.c + 1))) (rw (from_next l.c c.args.table.count c.loop-c-test.true) at l.invariant.4) in
@@ -62,7 +65,7 @@ write_column-requires c =
 
 pub overflow_add-at : goal.overflow_add-at
 overflow_add-at c =
-    let count-is : length (types_of c.args.table) ≡ c.args.table.count = types_count c.args.table c.requires.0 (rw length-map at c.well_formed.0.1.1.0.1.0.1) in
+    let count-is : length (types_of c.args.table) ≡ c.args.table.count = types_count c.args.table c.requires.0 (c.well_formed.0.1.1.0.1.0.1) in
     let room : c.loop-c.at + c.args.rows * width (type_at (types_of c.args.table) c.loop-c.c) c.args.table.long_string_refs ≤ length c.loop-c.out = let t = c.args.table in let n = count-is in omega (arith, column-within (types_of t) t.long_string_refs c.args.rows c.loop-c.c (omega arith), c.requires.4) in
     let width_is : c.width.result ≡ width (type_at (types_of c.args.table) c.loop-c.c) c.args.table.long_string_refs = rw c.form_at-form.ensures at c.width.ensures ∙ sym (form-width c.args.table.long_string_refs (type_at (types_of c.args.table) c.loop-c.c)) in
     rw width_is (omega (arith, room))
@@ -71,7 +74,7 @@ pub loop-c-preserved : goal.loop-c-preserved
 loop-c-preserved c =
     let cells_of : Cells = record { kinds = c.args.kinds.now; numbers = c.args.numbers.now } in
     let bytes_in : ℕ → Answer (List ℕ) = column_bytes (types_of c.args.table) c.args.table.long_string_refs c.args.rows cells_of in
-    let count-is : length (types_of c.args.table) ≡ c.args.table.count = types_count c.args.table c.requires.0 (rw length-map at c.well_formed.0.1.1.0.1.0.1) in
+    let count-is : length (types_of c.args.table) ≡ c.args.table.count = types_count c.args.table c.requires.0 (c.well_formed.0.1.1.0.1.0.1) in
     let room : c.loop-c.at + c.args.rows * width (type_at (types_of c.args.table) c.loop-c.c) c.args.table.long_string_refs ≤ length c.loop-c.out = let t = c.args.table in let n = count-is in omega (arith, column-within (types_of t) t.long_string_refs c.args.rows c.loop-c.c (omega arith), c.requires.4) in
     let fine-now : (refusal_of (bytes_in c.loop-c.c) ≡ gives tt) × (refusal_of (each bytes_in (from (c.loop-c.c + 1) (c.args.table.count - (c.loop-c.c + 1)))) ≡ gives tt) = let l = c.loop-c in fine-first bytes_in l.c (from (l.c + 1) (c.args.table.count - (l.c + 1))) (rw (from_next l.c c.args.table.count c.loop-c-test.true) at l.invariant.4) in
     let width_is : c.width.result ≡ width (type_at (types_of c.args.table) c.loop-c.c) c.args.table.long_string_refs = rw c.form_at-form.ensures at c.width.ensures ∙ sym (form-width c.args.table.long_string_refs (type_at (types_of c.args.table) c.loop-c.c)) in
@@ -93,7 +96,7 @@ loop-c-preserved c =
     ap (λ (k : ℕ). c.args.rows * k) (size-next (types_of t) long l.c (omega arith)) ∙ mul-add c.args.rows _ _ in (
       omega arith,
       rw width_is (omega arith),
-      same_len_mid l.at (length l.out - l.at) l.out c.write_column.new.out c.write_column.auto.1.1.1.1.0 ∙ l.invariant.2,
+      same_len_mid l.at (length l.out - l.at) l.out c.write_column.new.out c.write_column.auto.out ∙ l.invariant.2,
       rw width_is (lent_turn (given_bytes (f l.c)) (plain f (l.c + 1) (t.count - (l.c + 1))) l.out _ l.at (c.args.rows * width (type_at (types_of t) l.c) long) (omega (arith, room)) size put
           ∙ ap (λ (x : List ℕ). over_at l.at x l.out) (sym (plain_turn f l.c t.count h)) ∙ l.invariant.3),
       fine.1,

@@ -1,11 +1,13 @@
-"""What .ci/edits and .ci/tried share: edits as files, tried by `rt must-fail` in a copy of the tree, and held to their facts."""
+"""What .ci/edits and .ci/tried share: edits as files, tried by `rt must-fail`, and held to their facts."""
 import glob
 import os
 import re
 import shutil
 import subprocess
 
+REFUSED = 'refused, as it must be: '
 NOT_REFUSED = 'NOT REFUSED: the crate is still proved'
+FACT = re.compile(r'^# fact: (\S+) (\S+)$', re.M)
 
 
 def root():
@@ -29,6 +31,10 @@ def edits(top, folder):
         yield path, f'{path.split("/")[-3]}/{os.path.basename(path)[:-5]}', read(path)
 
 
+def crates_of(names):
+    return sorted({name.split('/')[0] for name in names})
+
+
 def faults_of_form(name, text):
     """What an edit of a wrong program lacks."""
     if not re.match(r'# wrong: \S', text):
@@ -49,59 +55,81 @@ def pairs(text):
             yield file, old, line[4:].removeprefix(' ')
 
 
-def enclosing(text, line):
-    """The name whose proof has the line."""
-    names = re.findall(r'^(?:pub )?([^\s:{]+) :', '\n'.join(text.splitlines()[:line]), re.M)
-    return names[-1] if names else '?'
+def function_at(top, crate, file, line):
+    """The function that has a line of src/, as `rt` names it. An edit changes text within lines, so the line is the same without it."""
+    owner = function = None
+    for text in read(f'{top}/crates/{crate}/src/{file}.rt').splitlines()[:line]:
+        if found := re.match(r'impl(?:<[^>]*>)? (\w+)', text):
+            owner, function = found.group(1), None
+        elif found := re.match(r'( {4})?(?:pub )?(?:pub\(crate\) )?(?:extern "C" )?fn (\w+)', text):
+            function = f'{owner}::{found.group(2)}' if found.group(1) else found.group(2)
+    # (a type's functions are named by the file that declares it)
+    if function and '::' in function:
+        declared = [os.path.relpath(path, f'{top}/crates/{crate}/src')[:-3] for path in glob.glob(f'{top}/crates/{crate}/src/**/*.rt', recursive=True)
+                    if re.search(rf'^(?:pub )?(?:pub\(crate\) )?(?:struct|enum) {owner}\b', read(path), re.M)]
+        file = declared[0] if len(declared) == 1 else file
+    module = '' if file in ('lib', 'main') else '::' + file.replace('/', '::')
+    return f'{crate}{module}::{function}'
 
 
-def first_error(folder):
-    """The file and the name in it where the prover stopped first, from its log."""
-    log = os.path.join(folder, '.log')
-    if not os.path.isfile(log):
-        return None
-    found = re.search(rf'^{re.escape(os.path.realpath(folder))}/(\S+?):(\d+):\d+: error:', read(log), re.M)
-    if not found:
-        return ('no error that names a place', '')
-    path = os.path.join(folder, found.group(1))
-    return (found.group(1), enclosing(read(path), int(found.group(2))) if os.path.isfile(path) else '?')
+def place(top, crate, words):
+    """Where the prover stopped first, by what `rt` said of the refusal: the function or the file of lemmas, and the goal or the lemma in it.
+    `rt` gives 160 characters of its message: a goal that they cut ends in `..`."""
+    if found := re.match(r'note: src/(\S+?)\.rt:(\d+):\d+: .*?\(`([^`]+)(`\))?', words):
+        return function_at(top, crate, found.group(1), int(found.group(2))), found.group(3) + ('' if found.group(4) else '..')
+    if found := re.match(r'(?:\./)?proofs/(\S+)/(?:Answers|Invariants|Proof)\.antt:\d+:\d+: error: `([^`]+)`', words):
+        return f'{crate}::{found.group(1).replace("/", "::")}', found.group(2)
+    if found := re.match(r'(?:\./)?(proofs/\S+)\.antt:\d+:\d+: error: `([^`]+)`', words):
+        return found.groups()
+    return None
 
 
-def off_its_fact(top, name, text, optional=False):
-    """What is wrong with where the edit was refused; nothing where it was refused at its fact."""
-    fact = re.search(r'^fact: (\S+) (\S+)$', text, re.M)
+def off_its_fact(top, name, text, words, optional=False):
+    """What is wrong with where the edit was refused; nothing where it was refused at its fact. words: what `rt` said of it, if it was tried."""
+    fact = FACT.search(text)
     if not fact:
         return [] if optional else [f'{name} has no fact']
-    stopped = first_error(f'{top}/target/must-fail/{name}')
-    if stopped is None:
-        return [f'{name} was not tried: run `rt must-fail`']
-    if stopped != fact.groups():
-        return [f'{name} is refused first at {" ".join(stopped)}, and its fact is {" ".join(fact.groups())}']
+    if words is None:
+        return [f'{name} was not tried']
+    if not words.startswith(REFUSED):
+        return [f'{name} is not refused at its fact: {words}']
+    stopped = place(top, name.split('/')[0], words.removeprefix(REFUSED))
+    is_at = stopped and stopped[0] == fact[1] and (stopped[1] == fact[2] or stopped[1].endswith('..') and fact[2].startswith(stopped[1][:-2]))
+    if not is_at:
+        return [f'{name} is refused first at {" ".join(stopped) if stopped else words.removeprefix(REFUSED)}, and its fact is {" ".join(fact.groups())}']
     return []
 
 
-def copy_of(top, work):
-    """The crates without their edits, over what is proved: `rt` proves none of them again, since they are the same."""
-    shutil.copytree(f'{top}/crates', f'{work}/crates', symlinks=True, ignore=shutil.ignore_patterns('must-fail'))
-    shutil.copy(f'{top}/crates.txt', work)
-    os.mkdir(f'{work}/target')
-    for part in ('rlib', 'stamp'):
-        os.symlink(f'{top}/target/{part}', f'{work}/target/{part}')
-
-
-def try_all(work):
-    """Has `rt` try every must-fail edit of a copy of the tree: gives (name, what it said) as it goes."""
-    crates = sorted({name.split('/')[0] for _, name, _ in edits(work, 'must-fail')})
-    with subprocess.Popen(['rt', 'must-fail', *crates], cwd=work, stdout=subprocess.PIPE, stderr=subprocess.STDOUT, text=True, errors='replace') as run:
-        for line in run.stdout:
-            if found := re.match(r'rt: must-fail (\S+): (.*)', line):
-                yield found.group(1), found.group(2).strip()
-
-
-def nothing_proved(top):
-    """Why no edit can be tried here, if none can."""
-    if not shutil.which('rt'):
-        return 'the Rattle toolchain is not here: no edit can be tried'
-    if not os.path.isdir(f'{top}/target/stamp'):
-        return 'nothing is proved yet in target/: run `rt ci` first'
+def prove(top, crates):
+    """Has `rt` prove these crates of the tree, and keep in their out/ what it proved: what is tried in a copy then begins with it. Gives
+    what it said of one that is not proved; where all are, nothing. Where nothing changed since, it takes no time."""
+    listed = re.findall(r'^(\w+)[^:\n]*:', read(f'{top}/crates.txt'), re.M)
+    for crate in [name for name in listed if name in crates]:
+        run = subprocess.run(['rt', 'lib'], cwd=f'{top}/crates/{crate}', stdout=subprocess.PIPE, stderr=subprocess.STDOUT, text=True, errors='replace')
+        if run.returncode:
+            return f'{crate} is not proved:\n{run.stdout}'
     return None
+
+
+def copy_of(top, work):
+    """The crates without their edits, and without what was proved: `rt` finds that in the tree itself, since the crates are the same."""
+    away = lambda folder, names: {'must-fail', 'out'} & {*names} if os.path.dirname(folder) == f'{top}/crates' else set()
+    shutil.copytree(f'{top}/crates', f'{work}/crates', symlinks=True, ignore=away)
+    shutil.copy(f'{top}/crates.txt', work)
+
+
+def try_all(top, crates):
+    """Has `rt` try every must-fail edit of these crates: gives (name, what it said), and at last what it said beside, under None."""
+    beside = []
+    with subprocess.Popen(['rt', 'must-fail', *crates], cwd=top, stdout=subprocess.PIPE, stderr=subprocess.STDOUT, text=True, errors='replace') as run:
+        for line in run.stdout:
+            if found := re.match(r'rt: must-fail (\w+/\S+)\.edit: (.*)', line):
+                yield found.group(1), found.group(2).strip()
+            else:
+                beside.append(line)
+    yield None, ''.join(beside)
+
+
+def not_here():
+    """Why no edit can be tried here, if none can."""
+    return None if shutil.which('rt') else 'the Rattle toolchain is not here: no edit can be tried'

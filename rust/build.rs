@@ -1,10 +1,10 @@
-//! Links the archive of crates/msi, libmsi.a: in the folder that STRANDROOST_LIB names, or else where `rt staticlib msi` or where
-//! `desk/build archive` put it.
+//! Links the archive of crates/msi, libmsi.a: in the folder that STRANDROOST_LIB names, or else where `rt lib` in crates/msi or
+//! where `desk/build archive` put it.
 use std::env::{var, var_os};
 use std::path::{Path, PathBuf};
 use std::process::ExitCode;
 
-const MADE: [&str; 2] = ["target/staticlib", "desk/out"];
+const MADE: [&str; 2] = ["crates/msi/out", "desk/out"];
 
 /// The folder that has the archive, or a sentence that says what to do.
 fn found() -> Result<PathBuf, String> {
@@ -26,7 +26,7 @@ fn found() -> Result<PathBuf, String> {
     let home = Path::new(&here).join("..");
     let folders = MADE.map(|folder| home.join(folder)).into_iter();
     let missing = format!("there is no archive (libmsi.a) in {}", MADE.join(" or "));
-    let to_do = "run 'rt staticlib msi' in the folder above this package, or name the archive's folder by STRANDROOST_LIB";
+    let to_do = "run 'rt lib' in crates/msi, beside this package, or name the archive's folder by STRANDROOST_LIB";
     // A folder that comes earlier is watched too, so that an archive that is made there later is taken.
     let watched = |folder: &PathBuf| println!("cargo:rerun-if-changed={}", folder.join("libmsi.a").display());
     folders.inspect(watched).find(has_archive).ok_or(format!("{missing}: {to_do}"))

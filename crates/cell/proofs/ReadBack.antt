@@ -12,7 +12,7 @@ use Rattle.common.proofs.Bools.{clash}
 use Rattle.cell.specs.declared.form.ColumnType.{ColumnType}
 use Rattle.cell.specs.declared.form.ColumnType.TheVariants.{Int16, Int32, Str, Binary}
 use Rattle.cell.specs.Cells.{is_binary_lem, width, integer, stored, unstored, integer_cell, reference_cell, binary_cell, reference_number}
-use Rattle.cell.specs.inner.Signed.{biased, unbiased}
+use Rattle.cell.specs.inner.Signed.{unbiased}
 use Rattle.cell.proofs.Halves.{sub_is, near_mag, near_unbiased, biased-lt, biased-some, unbiased-biased, biased-unbiased, integer-given}
 use Rattle.cell.proofs.Numbers.{integer-number, reference-number}
 use Rattle.cell.proofs.Cells.{reference-any, reference-short}

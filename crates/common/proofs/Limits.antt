@@ -1,6 +1,6 @@
 -- The tests of a signed reference number, by its sign.
 use mathlib.Core.Path.{◌≡◌, refl}
-use mathlib.Core.Bool.{Bool, true, false}
+use mathlib.Core.Bool.{true, false}
 use lib.IntN.{ℤ, pos, negsuc}
 use lib.Signed.{lt_z}
 use Rattle.common.specs.Answers.{gives, refused, nowhere}

@@ -1,5 +1,5 @@
 -- Laws of the searches, entry by entry.
-use Rattle.std.proofs.Common.{◌≡◌, ℕ, ◌+◌, ◌-◌, ◌<◌, ◌≤◌, Bool, true, false, not, ◌&&◌, ◌||◌, ltb, List, length, get_or, take, drop, sym, refl, ap, ◌∙◌, subst, ap₂, ⊎_elim, arith, length-drop, length-take-le, le-ltb, lt-ltb, eq-eqb, ne_eqb}
+use Rattle.std.proofs.Common.{◌≡◌, ℕ, ◌+◌, ◌<◌, ◌≤◌, Bool, true, false, not, ◌&&◌, ◌||◌, ltb, List, length, get_or, take, drop, sym, refl, ap, ◌∙◌, subst, ap₂, ⊎_elim, arith, length-drop, length-take-le, le-ltb, lt-ltb, eq-eqb, ne_eqb}
 use Rattle.common.specs.Choice.{if◌then◌else◌}
 use Rattle.common.specs.Lists.{total}
 use Rattle.common.proofs.Bools.{lt_or_le}

@@ -1,7 +1,7 @@
 -- What a load takes from a pool stream, and what loading its entries answers and leaves.
-use Rattle.std.specs.Prelude.{ℕ, List, [], length}
+use Rattle.std.specs.Prelude.{ℕ, List, length}
 use Rattle.common.specs.Lists.{◌over◌, total}
-use Rattle.common.specs.Answers.{Answer, gives, refused, on_given, outcome}
+use Rattle.common.specs.Answers.{Answer, gives, on_given, outcome}
 use Rattle.common.specs.Refusals.{refused_by}
 use Rattle.order.specs.Order.{streams_fit_lem, load_fits_lem}
 use Rattle.pool_entries.specs.Entries.{Rooms, rooms, entry_room_lem}

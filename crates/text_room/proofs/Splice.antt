@@ -1,13 +1,12 @@
 -- `splice`, by the stores that make it: the later bytes move, the new text is written, and what is given up becomes 0.
-use mathlib.Core.Path.{◌≡◌, refl, sym, ap, ap₂, ◌∙◌}
+use mathlib.Core.Path.{◌≡◌, sym, ap, ap₂, ◌∙◌}
 use Prim.Native.Nat.{ℕ, ◌+◌, ◌-◌, ◌≤◌, ◌<◌, max}
 use native.Mathlib.Omega.{arith}
-use mathlib.Core.Bool.{Bool, true, false, ◌||◌}
+use mathlib.Core.Bool.{◌||◌}
 use lib.Dec.{ltb}
 use borrow.Author.Tests.{le-ltb, ltb-false}
 use Rattle.common.specs.Lists.{◌over◌}
 use Rattle.common.specs.Answers.{Answer, gives, nowhere, on_given, outcome, written_to}
-use Rattle.common.proofs.Parts.{paste_over}
 use Rattle.common.proofs.Bools.{neither}
 use Rattle.common.proofs.Outcomes.{past}
 use Rattle.order.proofs.Laws.{text-fits}

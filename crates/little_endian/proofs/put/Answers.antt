@@ -1,12 +1,11 @@
-use Prim.Native.Nat.{◌+◌, ◌-◌, ◌/◌, ◌%◌, ◌≤◌}
+use Prim.Native.Nat.{◌+◌, ◌-◌, ◌/◌, ◌%◌}
 use native.Mathlib.Nat.{sub-zero}
 use native.Mathlib.Omega.{arith}
 use mathlib.Core.Path.{◌≡◌, refl}
 use mathlib.Core.List.{◌∷◌}
-use Rattle.common.proofs.Writing.{Writing, begin, room, step, kept, done}
+use Rattle.common.proofs.Writing.{begin, step, done}
 use Rattle.little_endian.specs.Numbers.{bytes_of}
 use Rattle.little_endian.proofs.Laws.{length-bytes, bytes_next, bytes-none}
-use Rattle.std.proofs.Common.{rules}
 use Rattle.little_endian.proofs.put.Goals as goal
 
 pub loop-i-init : goal.loop-i-init

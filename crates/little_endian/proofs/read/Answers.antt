@@ -1,11 +1,7 @@
-use Prim.Native.Nat.{◌+◌, ◌-◌, ◌≤◌, ◌<◌, ◌^◌}
-use native.Mathlib.Nat.{sub_self, sub-zero, add-zero}
+use Prim.Native.Nat.{◌+◌, ◌-◌, ◌<◌, ◌^◌}
 use native.Mathlib.Omega.{arith}
-use mathlib.Core.Path.{◌≡◌}
-use Rattle.little_endian.specs.Numbers.{number_at}
 use Rattle.little_endian.specs.Promises.{AreBytes}
-use Rattle.little_endian.proofs.Laws.{number_below, number_next}
-use Rattle.std.proofs.Common.{rules}
+use Rattle.little_endian.proofs.Laws.{number_below}
 use Rattle.little_endian.proofs.read.Goals as goal
 
 pub overflow_mul-value : goal.overflow_mul-value

@@ -1,15 +1,11 @@
-use Rattle.std.proofs.Common.{◌≡◌, ℕ, ◌+◌, ◌-◌, ◌*◌, ◌≤◌, take, ap, ◌∙◌, arith}
-use Rattle.common.specs.Lists.{total}
+use Rattle.std.proofs.Common.{◌≤◌, arith}
 use lib.Bits.{bit_or}
-use Rattle.pool_entries.specs.inner.Adding.{Short}
 use Rattle.pool_entries.proofs.Sums.{each-join, or_left, or_right}
-use Rattle.std.proofs.Common.{rules}
 use Rattle.pool_entries.proofs.adding.add_up.Goals as goal
 
 pub loop-i-preserved : goal.loop-i-preserved
 loop-i-preserved c =
-    let h = c.sum_block-b in
-    (
+    let h = c.sum_block-b in (
       omega arith,
       omega arith,
       omega (arith, h.ensures.sum, c.loop-i.invariant.2),

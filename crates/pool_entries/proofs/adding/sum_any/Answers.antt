@@ -1,7 +1,5 @@
-use Rattle.std.proofs.Common.{◌≡◌, ℕ, ◌+◌, ◌-◌, ◌*◌, ◌≤◌, take, refl, ap, ◌∙◌, arith}
-use Rattle.common.specs.Lists.{total}
+use Rattle.std.proofs.Common.{◌+◌, refl, arith}
 use Rattle.pool_entries.proofs.Sums.{total-next}
-use Rattle.std.proofs.Common.{rules}
 use Rattle.pool_entries.proofs.adding.sum_any.Goals as goal
 
 pub loop-i-preserved : goal.loop-i-preserved

@@ -1,8 +1,6 @@
-use Rattle.std.proofs.Common.{◌≡◌, ℕ, ◌-◌, ◌≤◌, get_or, arith, rules}
+use Rattle.std.proofs.Common.{ℕ, ◌≤◌, get_or, arith}
 use lib.Bits.{bit_or}
-use Rattle.pool_entries.specs.inner.Adding.{Tallied}
 use Rattle.pool_entries.proofs.Sums.{tally-next, or_left, or_right}
-use Rattle.std.proofs.Common.{rules}
 use Rattle.pool_entries.proofs.adding.tally.Goals as goal
 
 pub loop-i-preserved : goal.loop-i-preserved

@@ -1,12 +1,10 @@
-use Rattle.std.proofs.Common.{ℕ, sym, ◌∙◌, rules}
-use borrow.Author.Tests.{not-true, not-false}
+use Rattle.std.proofs.Common.{ℕ, sym, ◌∙◌}
 use Rattle.common.specs.Answers.{Answer, gives}
 use Rattle.pool_entries.specs.Entries.{Rooms, rooms, first_entries}
 use Rattle.pool_entries.specs.Choose.{first_free_or_equal}
 use Rattle.pool_entries.specs.Calls.{spot_at}
-use Rattle.pool_entries.proofs.Sound.{fits_few, counted-small, judge_size, judge_out, judge_unsound, judge_used, judge_sound, judge_fit}
-use Rattle.pool_entries.proofs.Look.{choose_over, choose_on, spot_found}
-use Rattle.std.proofs.Common.{rules}
+use Rattle.pool_entries.proofs.Sound.{fits_few, counted-small, judge_out, judge_unsound, judge_used, judge_sound, judge_fit}
+use Rattle.pool_entries.proofs.Look.{choose_on, spot_found}
 use Rattle.pool_entries.proofs.choosing.choose.Goals as goal
 
 pub returns-then-not-fits : goal.returns-then-not-fits

@@ -1,10 +1,7 @@
-use Rattle.std.proofs.Common.{◌≡◌, ◌+◌, ◌-◌, ◌≤◌, length, refl, ◌∙◌, arith}
+use Rattle.std.proofs.Common.{◌+◌, refl, ◌∙◌, arith}
 use Rattle.pool_entries.specs.Entries.{Rooms, rooms}
-use Rattle.pool_entries.specs.inner.Fit.{Fit}
-use Rattle.pool_entries.specs.inner.Look.{SumTo, NoneUp}
 use Rattle.pool_entries.proofs.Sums.{each-join, each_next}
 use Rattle.pool_entries.proofs.Look.{sum-next, compared, up_length, up_passed}
-use Rattle.std.proofs.Common.{rules}
 use Rattle.pool_entries.proofs.choosing.scan.Goals as goal
 
 pub returns-then-up_by_end : goal.returns-then-up_by_end

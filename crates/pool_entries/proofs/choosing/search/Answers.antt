@@ -1,9 +1,6 @@
-use Rattle.std.proofs.Common.{◌-◌, ◌≤◌, refl, arith, rules}
+use Rattle.std.proofs.Common.{arith}
 use Rattle.pool_entries.specs.Entries.{Rooms, rooms}
-use Rattle.pool_entries.specs.inner.Fit.{Fit}
-use Rattle.pool_entries.specs.inner.Look.{SumTo, Counted, NoneUp}
-use Rattle.pool_entries.proofs.Look.{found_here, found_later, found_none}
-use Rattle.std.proofs.Common.{rules}
+use Rattle.pool_entries.proofs.Look.{found_here, found_none}
 use Rattle.pool_entries.proofs.choosing.search.Goals as goal
 
 pub returns-then-s-to : goal.returns-then-s-to

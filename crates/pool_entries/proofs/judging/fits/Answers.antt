@@ -1,6 +1,5 @@
 use Rattle.std.proofs.Common.{le-ltb, lt-ltb}
 use Rattle.pool_entries.specs.inner.Sound.{fits_b}
-use Rattle.std.proofs.Common.{rules}
 use Rattle.pool_entries.proofs.judging.fits.Goals as goal
 
 pub returns-then-n-lengths : goal.returns-then-n-lengths

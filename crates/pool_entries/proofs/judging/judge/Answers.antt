@@ -1,11 +1,9 @@
-use Rattle.std.proofs.Common.{ℕ, take, sym, refl, ap, ◌∙◌, arith, rules}
-use borrow.Author.Tests.{not-true, not-false}
+use Rattle.std.proofs.Common.{ℕ, take, sym, ap, ◌∙◌, arith}
 use Rattle.common.specs.Lists.{total}
 use Rattle.common.specs.Answers.{Answer, gives}
 use Rattle.pool_entries.specs.Entries.{Rooms, rooms}
 use Rattle.pool_entries.specs.Calls.{judged_as}
-use Rattle.pool_entries.proofs.Sound.{fits_few, judge_size, judge_out, judge_on}
-use Rattle.std.proofs.Common.{rules}
+use Rattle.pool_entries.proofs.Sound.{fits_few, judge_out, judge_on}
 use Rattle.pool_entries.proofs.judging.judge.Goals as goal
 
 pub returns-then-not-fits : goal.returns-then-not-fits

@@ -1,7 +1,6 @@
-use Rattle.std.proofs.Common.{◌≡◌, ◌+◌, take, sym, ◌∙◌, arith, rules}
+use Rattle.std.proofs.Common.{◌≡◌, ◌+◌, take, arith}
 use Rattle.common.specs.Lists.{total}
-use Rattle.pool_entries.proofs.Sound.{used_over, used_sound, used_unsound, used_short}
-use Rattle.std.proofs.Common.{rules}
+use Rattle.pool_entries.proofs.Sound.{used_short}
 use Rattle.pool_entries.proofs.judging.used_after.Goals as goal
 
 pub returns-then-s-le65535 : goal.returns-then-s-le65535

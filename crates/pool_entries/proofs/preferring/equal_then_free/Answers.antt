@@ -1,7 +1,6 @@
-use Rattle.std.proofs.Common.{◌≡◌, sym, refl, ◌∙◌, zero-add, arith, rules}
+use Rattle.std.proofs.Common.{◌≡◌, sym, ◌∙◌, zero-add, arith}
 use Rattle.pool_entries.specs.Entries.{Rooms, rooms}
 use Rattle.pool_entries.proofs.Look.{prefers_up, prefers_free}
-use Rattle.std.proofs.Common.{rules}
 use Rattle.pool_entries.proofs.preferring.equal_then_free.Goals as goal
 
 pub returns-then-s-n : goal.returns-then-s-n

@@ -1,12 +1,8 @@
-use Rattle.std.proofs.Common.{ℕ, take, sym, ap, ◌∙◌, rules}
+use Rattle.std.proofs.Common.{ℕ, take, sym, ap, ◌∙◌}
 use Rattle.common.specs.Lists.{total}
-use Rattle.common.specs.Answers.{Answer, gives}
-use Rattle.pool_entries.specs.Entries.{Rooms, rooms, first_entries}
-use Rattle.pool_entries.specs.Choose.{equal_then_free_lem}
-use Rattle.pool_entries.specs.Calls.{spot_at, judged_as}
-use Rattle.pool_entries.proofs.Calls.{call_refused, call_passed, call_given, call_on}
-use Rattle.pool_entries.proofs.Look.{choose_over, choose_on, spot_found}
-use Rattle.std.proofs.Common.{rules}
+use Rattle.pool_entries.specs.Entries.{Rooms, rooms}
+use Rattle.pool_entries.specs.Calls.{judged_as}
+use Rattle.pool_entries.proofs.Calls.{call_passed}
 use Rattle.pool_entries.proofs.preferring.prefer.Goals as goal
 
 pub equal_then_free-s-requires : goal.equal_then_free-s-requires

@@ -1,7 +1,6 @@
-use Rattle.std.proofs.Common.{true≢false, arith, rules}
+use Rattle.std.proofs.Common.{arith}
 use borrow.Author.Tests.{eqb-false}
 use Rattle.pool_entries.proofs.Bytes.{part_differs}
-use Rattle.std.proofs.Common.{rules}
 use Rattle.pool_entries.proofs.same.may_be.Goals as goal
 
 pub returns-then-size-gt7 : goal.returns-then-size-gt7

@@ -1,7 +1,6 @@
-use Rattle.std.proofs.Common.{ℕ, ◌+◌, arith, rules}
+use Rattle.std.proofs.Common.{ℕ, ◌+◌, arith}
 use Rattle.pool_entries.specs.inner.Look.{PassedBy}
 use Rattle.pool_entries.proofs.Look.{pass_none, pass_next}
-use Rattle.std.proofs.Common.{rules}
 use Rattle.pool_entries.proofs.skips.skip_four.Goals as goal
 
 pub returns-then-b-size : goal.returns-then-b-size

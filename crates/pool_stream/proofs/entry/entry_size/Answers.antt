@@ -1,7 +1,6 @@
 use mathlib.Core.Path.{sym, ◌∙◌}
 use native.Mathlib.Omega.{arith}
 use Rattle.pool_stream.proofs.Writing.{length-narrow, length-wide}
-use Rattle.std.proofs.Common.{rules}
 use Rattle.pool_stream.proofs.entry.entry_size.Goals as goal
 
 pub returns-then-wide : goal.returns-then-wide

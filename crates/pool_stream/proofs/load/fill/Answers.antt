@@ -1,19 +1,17 @@
 use mathlib.Core.Path.{◌≡◌, sym, ap, ◌∙◌}
-use Prim.Native.Nat.{ℕ, suc, ◌+◌, ◌-◌, ◌*◌, ◌≤◌, ◌<◌}
+use Prim.Native.Nat.{ℕ, suc, ◌+◌, ◌-◌, ◌≤◌, ◌<◌}
 use native.Mathlib.Omega.{arith}
 use mathlib.Core.List.{List}
 use lib.ListN.{length, drop, get_or, set, length-drop}
 use native.Mathlib.Nat.{sub-zero, zero-add}
 use native.Mathlib.Numerals.{add-one}
-use mathlib.Core.Logic.{⊎_elim}
 use Rattle.common.specs.Answers.{gives}
 use Rattle.common.proofs.Parts.{tail_part}
-use Rattle.common.proofs.Run.{Run, run-start, run-turn, run_end}
+use Rattle.common.proofs.Run.{Run, run-start, run-turn}
 use Rattle.pool_stream.specs.Entries.{entry_in, entries_in}
 use Rattle.pool_stream.specs.inner.Sizes.{lengths_in, counts_in}
 use Rattle.pool_stream.specs.inner.Found.{found_as}
 use Rattle.pool_stream.proofs.Reading.{found_size, one_more, is_one}
-use Rattle.std.proofs.Common.{rules}
 use Rattle.pool_stream.proofs.load.fill.Goals as goal
 
 -- a turn of a run that starts at 0

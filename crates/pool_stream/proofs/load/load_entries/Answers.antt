@@ -2,7 +2,6 @@ use mathlib.Core.Path.{ap}
 use Rattle.pool_entries.specs.Entries.{rooms}
 use Rattle.pool_stream.specs.Plan.{planned_as}
 use Rattle.pool_stream.proofs.Planning.{by_plan, filling, entries-filled, entries-refused}
-use Rattle.std.proofs.Common.{rules}
 use Rattle.pool_stream.proofs.load.load_entries.Goals as goal
 
 pub fill-requires : goal.fill-requires

@@ -1,14 +1,13 @@
 use mathlib.Core.Path.{◌≡◌, sym, ap, ◌∙◌}
-use Prim.Native.Nat.{ℕ, ◌+◌, ◌-◌, ◌*◌, ◌≤◌}
+use Prim.Native.Nat.{ℕ}
 use native.Mathlib.Omega.{arith}
 use lib.ListN.{length, drop, length-drop}
 use native.Mathlib.Nat.{sub-zero}
 use Rattle.common.proofs.Parts.{tail_part}
-use Rattle.pool_stream.specs.Entries.{entry_in, entries_in, pool_entries_lem}
+use Rattle.pool_stream.specs.Entries.{entry_in, entries_in}
 use Rattle.pool_stream.specs.inner.Found.{found_as}
 use Rattle.pool_stream.specs.Plan.{sizes_of}
 use Rattle.pool_stream.proofs.Reading.{found_size, more, more_none, size-end, size-cut, size-one}
-use Rattle.std.proofs.Common.{rules}
 use Rattle.pool_stream.proofs.plan.sizes.Goals as goal
 
 pub loop-length-init : goal.loop-length-init

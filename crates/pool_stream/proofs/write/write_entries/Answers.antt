@@ -1,14 +1,11 @@
-use Rattle.common.proofs.Parts.{over_none, length-over_at}
-use mathlib.Core.Path.{◌≡◌, refl, sym, ap, ◌∙◌}
-use Prim.Native.Nat.{ℕ, ◌+◌, ◌-◌, ◌≤◌}
+use Rattle.common.proofs.Parts.{length-over_at}
+use mathlib.Core.Path.{ap, ◌∙◌}
+use Prim.Native.Nat.{ℕ}
 use native.Mathlib.Omega.{arith}
 use mathlib.Core.List.{List}
-use lib.ListN.{length, take, get_or}
+use lib.ListN.{length, get_or}
 use Rattle.pool_stream.specs.Entries.{entry_bytes}
-use Rattle.pool_stream.specs.inner.Write.{entries_bytes}
-use Rattle.common.specs.Lists.{over_at}
 use Rattle.pool_stream.proofs.Writing.{length-suc, turn_room, turn_out}
-use Rattle.std.proofs.Common.{rules}
 use Rattle.pool_stream.proofs.write.write_entries.Goals as goal
 
 pub write_entry-at-requires : goal.write_entry-at-requires

@@ -6,10 +6,9 @@ use lib.ListN.{length}
 use Rattle.common.specs.Lists.{over_at}
 use Rattle.common.proofs.Parts.{length-over_at}
 use Rattle.little_endian.specs.Numbers.{bytes_of}
-use Rattle.pool_stream.specs.Entries.{short_of, wide}
-use Rattle.pool_stream.proofs.Writing.{length-entry, length-narrow, length-wide}
+use Rattle.pool_stream.specs.Entries.{short_of}
+use Rattle.pool_stream.proofs.Writing.{length-narrow, length-wide}
 use Rattle.pool_stream.proofs.Writing.{wrote, wrote_narrow, wrote_wide}
-use Rattle.std.proofs.Common.{rules}
 use Rattle.pool_stream.proofs.write.write_entry.Goals as goal
 
 pub returns-then-wide : goal.returns-then-wide

@@ -1,16 +1,15 @@
-use mathlib.Core.Path.{◌≡◌, sym, ap, ◌∙◌}
+use mathlib.Core.Path.{sym, ap, ◌∙◌}
 use Prim.Native.Nat.{ℕ}
 use mathlib.Core.List.{List}
 use lib.ListN.{take}
 use Rattle.common.specs.Lists.{total}
-use Rattle.common.specs.Answers.{Answer, gives, outcome, written_to}
+use Rattle.common.specs.Answers.{Answer, outcome, written_to}
 use Rattle.pool_entries.specs.Entries.{Rooms, rooms}
-use Rattle.pool_entries.specs.Calls.{judged_as, judge_answer}
-use Rattle.pool_entries.proofs.Calls.{Passed, call_refused, call_passed, call_on}
+use Rattle.pool_entries.specs.Calls.{judged_as}
+use Rattle.pool_entries.proofs.Calls.{call_passed, call_on}
 use Rattle.pool_stream.specs.Entries.{stream_bytes}
 use Rattle.pool_stream.specs.inner.Write.{stream_by}
 use Rattle.pool_stream.proofs.Writing.{stream-same}
-use Rattle.std.proofs.Common.{rules}
 use Rattle.pool_stream.proofs.write.write_stream.Goals as goal
 
 pub mark-requires : goal.mark-requires

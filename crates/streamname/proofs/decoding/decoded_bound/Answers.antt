@@ -1,6 +1,5 @@
 use native.Mathlib.Omega.{arith}
 use Rattle.streamname.proofs.DecodeLaws.{decoded-short}
-use Rattle.std.proofs.Common.{rules}
 use Rattle.streamname.proofs.decoding.decoded_bound.Goals as goal
 
 pub returns-then-stored : goal.returns-then-stored

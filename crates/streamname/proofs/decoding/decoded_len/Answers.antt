@@ -1,10 +1,7 @@
 use Rattle.streamname.proofs.DecodeLaws.{decoded-next, decoded-end, short}
-use Rattle.streamname.specs.Names.{decoded}
-use lib.ListN.{length, drop, length-append}
-use mathlib.Core.Path.{◌≡◌, ap}
+use lib.ListN.{length, length-append}
+use mathlib.Core.Path.{ap}
 use native.Mathlib.Omega.{arith}
-use Prim.Native.Nat.{◌+◌, ◌*◌, ◌-◌, ◌≤◌}
-use Rattle.std.proofs.Common.{rules}
 use Rattle.streamname.proofs.decoding.decoded_len.Goals as goal
 
 pub loop-i-preserved : goal.loop-i-preserved

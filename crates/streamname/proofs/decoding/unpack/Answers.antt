@@ -1,6 +1,5 @@
 use Rattle.streamname.proofs.DecodeLaws.{undone-two, undone-one, undone-other}
 use native.Mathlib.Omega.{arith}
-use Rattle.std.proofs.Common.{rules}
 use Rattle.streamname.proofs.decoding.unpack.Goals as goal
 
 pub returns-in-14336-to-18431 : goal.returns-in-14336-to-18431

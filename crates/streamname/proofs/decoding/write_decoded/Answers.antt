@@ -1,13 +1,12 @@
-use Prim.Native.Nat.{◌+◌, ◌-◌, ◌≤◌}
+use Prim.Native.Nat.{◌+◌, ◌≤◌}
 use native.Mathlib.Omega.{arith}
 use mathlib.Core.Path.{◌≡◌}
 use mathlib.Core.List.{◌++◌}
 use lib.ListN.{length, drop}
-use Rattle.common.proofs.Writing.{Writing, begin, kept, rooms, steps_front, count, done_front}
+use Rattle.common.proofs.Writing.{rooms, steps_front, count, done_front}
 use Rattle.streamname.specs.Names.{decoded}
 use Rattle.streamname.specs.inner.Packing.{units_of}
 use Rattle.streamname.proofs.DecodeLaws.{decoded-next, decoded-end}
-use Rattle.std.proofs.Common.{rules}
 use Rattle.streamname.proofs.decoding.write_decoded.Goals as goal
 
 pub put_units-at-requires : goal.put_units-at-requires

@@ -1,6 +1,5 @@
 use native.Mathlib.Omega.{arith}
 use Rattle.streamname.proofs.EncodeLaws.{stored_short}
-use Rattle.std.proofs.Common.{rules}
 use Rattle.streamname.proofs.encoding.encoded_bound.Goals as goal
 
 pub returns-then-name-places : goal.returns-then-name-places

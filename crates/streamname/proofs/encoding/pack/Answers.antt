@@ -7,7 +7,6 @@ use Rattle.streamname.specs.inner.Packing.{letter_of}
 use Rattle.streamname.specs.Letters.{to_b64_lem}
 use Rattle.streamname.proofs.LetterLaws.{letter_below}
 use Rattle.streamname.proofs.EncodeLaws.{front_passes, front_last, front_lone, front_pair}
-use Rattle.std.proofs.Common.{rules}
 use Rattle.streamname.proofs.encoding.pack.Goals as goal
 
 pub returns-in_default : goal.returns-in_default

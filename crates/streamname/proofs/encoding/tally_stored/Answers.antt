@@ -1,7 +1,5 @@
 use native.Mathlib.Omega.{arith}
-use native.Mathlib.Numerals.{add-one}
 use Rattle.streamname.proofs.EncodeLaws.{encoded-short}
-use Rattle.std.proofs.Common.{rules}
 use Rattle.streamname.proofs.encoding.tally_stored.Goals as goal
 
 pub overflow_add-result : goal.overflow_add-result

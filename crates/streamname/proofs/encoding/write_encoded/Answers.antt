@@ -1,10 +1,6 @@
-use Prim.Native.Nat.{◌-◌, ◌≤◌}
 use native.Mathlib.Omega.{arith}
-use lib.ListN.{length, drop}
-use Rattle.streamname.specs.Names.{encoded}
 use Rattle.streamname.proofs.EncodeLaws.{encoded-end}
-use Rattle.common.proofs.Writing.{Writing, begin, kept, room-front, step_front, count, done_front}
-use Rattle.std.proofs.Common.{rules}
+use Rattle.common.proofs.Writing.{step_front, count, done_front}
 use Rattle.streamname.proofs.encoding.write_encoded.Goals as goal
 
 pub loop-i-preserved : goal.loop-i-preserved

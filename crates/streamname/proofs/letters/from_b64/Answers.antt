@@ -1,6 +1,5 @@
 use borrow.Author.Tests.{lt-ltb, le-ltb, eq-eqb, ne_eqb}
 use Rattle.streamname.proofs.LetterLaws.{spelled_is}
-use Rattle.std.proofs.Common.{rules}
 use Rattle.streamname.proofs.letters.from_b64.Goals as goal
 
 pub returns-then-six-lt62 : goal.returns-then-six-lt62

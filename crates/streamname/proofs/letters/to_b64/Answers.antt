@@ -4,7 +4,6 @@ use lib.ListN.{get_or}
 use Rattle.streamname.specs.Letters.{to_b64_lem}
 use Rattle.streamname.specs.inner.Packing.{or_sixty_four}
 use Rattle.streamname.proofs.LetterLaws.{looked_up, past, is-letter, is-other}
-use Rattle.std.proofs.Common.{rules}
 use Rattle.streamname.proofs.letters.to_b64.Goals as goal
 
 pub returns-then-unit-gt127 : goal.returns-then-unit-gt127

@@ -1,9 +1,6 @@
 use mathlib.Core.Path.{refl}
-use Prim.Native.Nat.{◌-◌}
 use native.Mathlib.Omega.{arith}
-use lib.ListN.{length}
-use Rattle.common.proofs.Run.{Run, run-start, run-turn, run_end}
-use Rattle.std.proofs.Common.{rules}
+use Rattle.common.proofs.Run.{run-turn}
 use Rattle.text_room.proofs.text.copy.Goals as goal
 
 pub loop-j-preserved : goal.loop-j-preserved

@@ -1,8 +1,6 @@
-use Prim.Native.Nat.{◌-◌}
 use native.Mathlib.Omega.{arith}
-use lib.ListN.{drop, length-drop}
-use Rattle.common.proofs.Run.{Run, run-start, run-turn, run_end, move_reads}
-use Rattle.std.proofs.Common.{rules}
+use lib.ListN.{length-drop}
+use Rattle.common.proofs.Run.{run-turn, move_reads}
 use Rattle.text_room.proofs.text.move_down.Goals as goal
 
 pub loop-j-preserved : goal.loop-j-preserved

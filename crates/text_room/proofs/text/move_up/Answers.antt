@@ -1,6 +1,4 @@
-use native.Mathlib.Omega.{arith}
-use Rattle.common.proofs.Run.{RunDown, down_start, down_turn, down_end}
-use Rattle.std.proofs.Common.{rules}
+use Rattle.common.proofs.Run.{down_turn}
 use Rattle.text_room.proofs.text.move_up.Goals as goal
 
 pub loop-j-preserved : goal.loop-j-preserved

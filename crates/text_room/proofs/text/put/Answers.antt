@@ -4,7 +4,6 @@ use native.Mathlib.Omega.{arith}
 use mathlib.Core.List.{◌++◌}
 use lib.ListN.{length, drop}
 use Rattle.text_room.proofs.Splice.{front, splice-two, splice-more, splice-less, moved}
-use Rattle.std.proofs.Common.{rules}
 use Rattle.text_room.proofs.text.put.Goals as goal
 
 pub returns-then-end-used : goal.returns-then-end-used

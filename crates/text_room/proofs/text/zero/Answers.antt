@@ -1,10 +1,9 @@
 use mathlib.Core.Path.{◌≡◌, sym}
-use Prim.Native.Nat.{ℕ, ◌+◌, ◌-◌}
+use Prim.Native.Nat.{ℕ, ◌+◌}
 use native.Mathlib.Omega.{arith}
 use mathlib.Core.List.{List}
-use lib.ListN.{set, replicate, length-replicate, get_or-replicate}
-use Rattle.common.proofs.Run.{Run, run-start, run-turn, run_end}
-use Rattle.std.proofs.Common.{rules}
+use lib.ListN.{set, length-replicate, get_or-replicate}
+use Rattle.common.proofs.Run.{Run, run-turn}
 use Rattle.text_room.proofs.text.zero.Goals as goal
 
 -- a store at a place by another name

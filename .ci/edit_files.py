@@ -105,7 +105,8 @@ def prove(top, crates):
     what it said of one that is not proved; where all are, nothing. Where nothing changed since, it takes no time."""
     listed = re.findall(r'^(\w+)[^:\n]*:', read(f'{top}/crates.txt'), re.M)
     for crate in [name for name in listed if name in crates]:
-        run = subprocess.run(['rt', 'lib'], cwd=f'{top}/crates/{crate}', stdout=subprocess.PIPE, stderr=subprocess.STDOUT, text=True, errors='replace')
+        how = 'check' if os.path.isfile(f'{top}/crates/{crate}/src/main.rt') else 'lib'
+        run = subprocess.run(['rt', how], cwd=f'{top}/crates/{crate}', stdout=subprocess.PIPE, stderr=subprocess.STDOUT, text=True, errors='replace')
         if run.returncode:
             return f'{crate} is not proved:\n{run.stdout}'
     return None

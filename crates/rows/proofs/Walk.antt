@@ -9,7 +9,7 @@ use native.Mathlib.Omega.{arith}
 use lib.IntN.{ℤ, pos}
 use lib.ListN.{length, take, drop, get_or, replicate, drop_of_length-le}
 use lib.Seq.{take-nil, drop-cons}
-use Rattle.common.specs.Answers.{Place, Answer, gives, refused}
+use Rattle.common.specs.Answers.{Answer, gives, refused}
 use Rattle.cell.proofs.Halves.{lt_or_le}
 use Rattle.table.specs.declared.layout.Table.{Table}
 use Rattle.table.specs.Reading.{num_rows_answer}

@@ -19,7 +19,7 @@ use Rattle.order.specs.Order.{drop_fits_lem}
 use Rattle.order.proofs.Laws.{drop-fits}
 use Rattle.pool_entries.specs.Calls.{judge_answer}
 use Rattle.pool_entries.proofs.Calls.{call_refused, call_on}
-use Rattle.stringpool.specs.Pool.{Entry, entry, Rooms, rooms, entries_of, put_back}
+use Rattle.stringpool.specs.Pool.{Entry, entry, Rooms, entries_of, put_back}
 use Rattle.stringpool.specs.Refs.{on_reference}
 use Rattle.stringpool.specs.Drop.{lessened, drop_at_lem, drop_outcome}
 use Rattle.stringpool.specs.inner.Entries.{Fit}
@@ -28,7 +28,7 @@ use Rattle.stringpool.specs.inner.Plan.{Ready, Planned}
 use Rattle.stringpool.specs.declared.entry.Plan.{Plan}
 use Rattle.stringpool.specs.declared.entry.Plan.TheVariants.{Refused, Count, Put}
 use Rattle.stringpool.specs.declared.pool.StringPool.{StringPool}
-use Rattle.stringpool.proofs.Entries.{put_one, put_count, length-entries, count_at, count_same}
+use Rattle.stringpool.proofs.Entries.{put_one, put_count, length-entries, count_same}
 
 -- a refusal leaves the rooms
 pub refusing : {A : Type 0} {goal : Answer A × Rooms} {w : Rooms} {t : List ℕ} (x : Refusal) → (refused_by x, w) ≡ goal → Planned goal (refused_by x) (Refused x) w t

@@ -5,12 +5,12 @@ use native.Mathlib.Nat.{le_of_suc-le-suc, not-suc-le-zero}
 use native.Mathlib.Numerals.{add-one}
 use native.Mathlib.Omega.{arith}
 use mathlib.Core.Bool.{Bool, true, false}
-use mathlib.Core.List.{List, [], ◌∷◌, ◌++◌, map, append_assoc, append-nil}
+use mathlib.Core.List.{List, [], ◌∷◌, ◌++◌, append_assoc, append-nil}
 use lib.ListN.{length, take, drop, get_or, set, replicate, length-append, length-drop, length-set, length-map, length-replicate, take-append-drop, get_or-eq_default}
 use lib.Seq.{take-add, drop-drop, set-append_left, length-take-le, set-get_or, get_or-take, take-take, set_split}
 use lib.Dec.{leb}
 use borrow.Author.Tests.{leb-true, leb-false}
-use Rattle.common.specs.Lists.{◌over◌, total}
+use Rattle.common.specs.Lists.{total}
 use Rattle.text_room.specs.Texts.{splice}
 use Rattle.stringpool.specs.Pool.{Entry, Rooms, rooms, cut, entries_of, texts, put_back}
 use Rattle.stringpool.specs.inner.Entries.{Fit, first_entries, lengths_of, counts_of}

@@ -3,7 +3,7 @@ use mathlib.Core.Path.{◌≡◌, refl, sym, ap, ap₂, subst, ◌∙◌}
 use Prim.Native.Nat.{ℕ, zero, suc, ◌+◌, ◌*◌, ◌%◌, ◌≤◌, ◌<◌}
 use native.Mathlib.Omega.{arith}
 use mathlib.Core.Bool.{Bool, true, false, ◌&&◌}
-use mathlib.Core.List.{List, [], ◌∷◌, ◌++◌}
+use mathlib.Core.List.{List, ◌∷◌, ◌++◌}
 use mathlib.Core.Logic.{◌↔◌, ◌⊎◌, inl, inr, ⊎_elim}
 use lib.Dec.{ltb, leb, eqb}
 use lib.ListN.{length, take, drop, length-drop, length-append, take-append-drop}
@@ -16,7 +16,7 @@ use Rattle.common.specs.Answers.{Answer, gives}
 use Rattle.little_endian.specs.Numbers.{bytes_of, number_at}
 use Rattle.little_endian.specs.Promises.{AreBytes}
 use Rattle.little_endian.proofs.Laws.{write_back, number_lt}
-use Rattle.stringpool.specs.Pool.{Rooms, rooms}
+use Rattle.stringpool.specs.Pool.{Rooms}
 use Rattle.stringpool.specs.Load.{Found, one, ends, on_found, entries_in, pool_from_lem, load_outcome}
 use Rattle.stringpool.specs.Write.{short_of, wide, entry_bytes, mark_of, pool_bytes, data_bytes}
 use Rattle.pool_stream.specs.inner.Write.{entries_bytes, stream_by}

@@ -6,8 +6,8 @@ use Prim.Native.Nat.{ℕ, zero, suc, ◌+◌, ◌-◌, ◌*◌, ◌/◌, ◌%◌
 use native.Mathlib.Nat.{add-mul, sub-zero, suc-mul, zero-mul, mul-zero, add-zero, zero-add, mul-le-mul_right, not-suc-le-zero, le_of_suc-le-suc, div-add-mod', mod-lt, div-lt_iff_lt-mul}
 use native.Mathlib.Omega.{arith}
 use borrow.Rule.Slice.PartMut.{put_mid}
-use lib.ListN.{length, get_or, take, drop, set, length-set, length-map, length-append, length-drop, get_or-append}
-use lib.Seq.{get_or-set_same, get_or-set_other, get_or-append-add, ext_get_or, length-take-le}
+use lib.ListN.{length, get_or, set, length-set, length-map, length-append, get_or-append}
+use lib.Seq.{get_or-set_same, get_or-set_other, get_or-append-add, ext_get_or}
 use Rattle.common.specs.Lists.{◌over◌, over_at, from}
 use Rattle.common.proofs.Parts.{filled_part}
 use Rattle.common.proofs.Writing.{Writing, begin, rooms, steps_front, done_front}

@@ -1,11 +1,11 @@
 -- What the calls know of a table's columns and places.
-use mathlib.Core.Path.{◌≡◌, refl, sym, ◌∙◌, ap}
+use mathlib.Core.Path.{◌≡◌, ◌∙◌, ap}
 use mathlib.Core.Bool.{Bool}
 use Prim.Native.Nat.{ℕ, ◌+◌, ◌*◌, ◌<◌, ◌≤◌}
 use native.Mathlib.Nat.{mul-le-mul_right}
 use native.Mathlib.Omega.{arith}
 use lib.ListN.{length, get_or, take}
-use Rattle.common.specs.Answers.{Answer, gives}
+use Rattle.common.specs.Answers.{gives}
 use Rattle.cell.specs.Cells.{width}
 use Rattle.widths.specs.declared.places.Places.{Places}
 use Rattle.widths.specs.Widths.{row_size_lem, type_at}

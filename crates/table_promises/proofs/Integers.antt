@@ -22,13 +22,12 @@ use Rattle.table.specs.declared.layout.Table.{Table}
 use Rattle.table.specs.Layout.{types_of}
 use Rattle.widths.specs.Widths.{type_at}
 use Rattle.widths.proofs.Judged.{count-few, columns_passed}
-use Rattle.table.specs.Reading.{read_cell_answer}
-use Rattle.table.specs.Writing.{Cells, cell_bytes, column_bytes, table_bytes, written_rows, write_rows_answer, write_rows_outcome}
+use Rattle.table.specs.Writing.{Cells, cell_bytes, column_bytes, written_rows, write_rows_answer, write_rows_outcome}
 use Rattle.common.proofs.Answers.{given_refusal, refused-is, first_refused, none-refused}
 use Rattle.table.proofs.Layouts.{types_count}
 use Rattle.table.proofs.Column.{table_judged}
 use Rattle.table.proofs.Answers.{bad-cell}
-use Rattle.table_promises.specs.Promises.{handed, is_integer, half_of, IntAt, Kept, IntegersKept, Int16Kept, Int32Kept, Stored, NeverWritten, First, RefusedWith17, OutsideRefused, OutsideIs17, SmallestRefused, FortyThousand}
+use Rattle.table_promises.specs.Promises.{is_integer, half_of, IntAt, IntegersKept, Int16Kept, Int32Kept, Stored, OutsideRefused, OutsideIs17, SmallestRefused, FortyThousand}
 use Rattle.common.proofs.Bools.{clash}
 use Rattle.table_promises.proofs.Back.{done, kept, fine-cell, place_back, written-bytes}
 

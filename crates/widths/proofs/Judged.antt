@@ -7,13 +7,12 @@ use native.Mathlib.Numerals.{add-one}
 use native.Mathlib.Omega.{arith}
 use lib.Dec.{ltb}
 use borrow.Author.Tests.{le-ltb, ltb-false}
-use lib.ListN.{length, get_or, take, drop, length-map, drop_of_length-le}
+use lib.ListN.{length, get_or, drop, length-map, drop_of_length-le}
 use lib.Seq.{get_or-take, length-take-le, slice-cons}
 use Rattle.common.specs.Choice.{if◌then◌else◌}
 use Rattle.common.specs.Answers.{Place, nowhere, Answer, gives, refused, on_given, refusal_of}
 use Rattle.common.proofs.Bools.{clash}
 use Rattle.common.proofs.Answers.{given_refusal, after-given, after-refused, passed}
-use Rattle.cell.specs.declared.form.ColumnType.{ColumnType}
 use Rattle.cell.specs.declared.form.ColumnType.TheVariants.{Int16}
 use Rattle.column.specs.declared.column.Column.{Column}
 use Rattle.cell.specs.Forms.{form_for, form_answer, sound_type}

@@ -9,7 +9,7 @@ use lib.Dec.{lit≤, ltb, eqb}
 use borrow.Author.Tests.{ltb-false, ne_eqb}
 use lib.ListN.{length, get_or, take, drop, length-map, get_or-append}
 use Rattle.common.specs.Choice.{if◌then◌else◌}
-use Rattle.common.specs.Lists.{◌over◌, total}
+use Rattle.common.specs.Lists.{◌over◌}
 use Rattle.common.specs.Answers.{Place, Answer, nowhere, gives, refused, on_given, refusal_of, outcome}
 use Rattle.common.proofs.Bools.{clash}
 use Rattle.cell.specs.declared.form.ColumnType.{ColumnType}

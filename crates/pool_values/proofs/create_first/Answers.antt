@@ -1,8 +1,7 @@
 use mathlib.Core.Path.{sym, ◌∙◌}
 use Rattle.stringpool.specs.Pool.{Rooms, rooms}
 use Rattle.stringpool.specs.Take.{first_free_or_equal}
-use Rattle.pool_values.proofs.Pools.{create_plain, create_text}
-use Rattle.std.proofs.Common.{rules}
+use Rattle.pool_values.proofs.Pools.{create_text}
 use Rattle.pool_values.proofs.create_first.Goals as goal
 
 pub returns-then-is_text : goal.returns-then-is_text

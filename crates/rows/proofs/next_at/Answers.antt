@@ -5,7 +5,6 @@ use Rattle.common.specs.Answers.{gives}
 use Prim.Native.Nat.{◌+◌, ◌<◌}
 use native.Mathlib.Omega.{arith}
 use mathlib.Core.Path.{◌≡◌, ◌∙◌}
-use Rattle.std.proofs.Common.{rules}
 use Rattle.rows.proofs.next_at.Goals as goal
 
 pub returns-in-Refused : goal.returns-in-Refused

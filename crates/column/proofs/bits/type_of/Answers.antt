@@ -8,10 +8,8 @@ use mathlib.Core.Bool.{true, false}
 use lib.Dec.{eqb}
 use lib.Bits.{bit_and}
 use borrow.Author.Tests.{eq-eqb, ne_eqb}
-use native.Mathlib.Omega.{arith}
 use Prim.Native.Nat.{ℕ, ◌%◌}
 use mathlib.Core.Path.{◌≡◌, ◌∙◌, sym}
-use Rattle.std.proofs.Common.{rules}
 use Rattle.column.proofs.bits.type_of.Goals as goal
 
 -- the low byte, as the code's tests on the size have it

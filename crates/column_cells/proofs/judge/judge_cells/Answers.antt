@@ -1,20 +1,17 @@
-use Rattle.column_cells.proofs.Strides.{next_le, next-is}
-use Rattle.common.proofs.Answers.{each_turn, each-stop, each-end}
+use Rattle.column_cells.proofs.Strides.{next-is}
+use Rattle.common.proofs.Answers.{each_turn, each-stop}
 use Rattle.column_cells.specs.Strides.{cell_number}
 use Rattle.cell.proofs.Numbers.{handed-stored}
 use Rattle.cell.specs.Forms.{type_in, long_in, stored_as}
 use Rattle.cell.specs.Handed.{cell_of}
-use Rattle.common.specs.Answers.{refusal_of, each, cell}
-use Rattle.common.specs.Lists.{from}
+use Rattle.common.specs.Answers.{refusal_of, cell}
 use mir.Facts.{to_z-of_z}
 use mir.Syntax.{w32}
-use lib.ListN.{length, get_or}
+use lib.ListN.{get_or}
 use lib.IntN.{pos}
 use native.Mathlib.Omega.{arith}
-use native.Mathlib.Nat.{sub-zero, zero-mul}
-use Prim.Native.Nat.{ℕ, ◌+◌, ◌-◌, ◌*◌, ◌≤◌, ◌<◌, ◌^◌}
+use Prim.Native.Nat.{ℕ, ◌+◌, ◌*◌}
 use mathlib.Core.Path.{◌≡◌, sym, ap, ◌∙◌}
-use Rattle.std.proofs.Common.{rules}
 use Rattle.column_cells.proofs.judge.judge_cells.Goals as goal
 
 pub returns-in-Refused : goal.returns-in-Refused

@@ -1,20 +1,16 @@
 use Rattle.column_cells.proofs.Parts.{cell-part}
-use Rattle.column_cells.proofs.Strides.{next_le, next-is}
-use Rattle.column_cells.proofs.Strides.{stride_turn, stride_done}
+use Rattle.column_cells.proofs.Strides.{next-is}
+use Rattle.column_cells.proofs.Strides.{stride_turn}
 use Rattle.column_cells.specs.Strides.{form_width}
-use Rattle.column_cells.specs.Strides.{strided, form_cell}
+use Rattle.column_cells.specs.Strides.{form_cell}
 use Rattle.cell.specs.Kinds.{cell_as}
-use Rattle.common.specs.Lists.{from}
 use mir.Facts.{to_z-of_z}
 use mir.Syntax.{w32}
-use lib.ListN.{length, length-set}
+use lib.ListN.{length-set}
 use lib.IntN.{ℤ}
 use native.Mathlib.Omega.{arith}
-use native.Mathlib.Nat.{sub-zero, zero-mul, mul-le-mul_right}
-use Prim.Native.Nat.{ℕ, ◌+◌, ◌-◌, ◌*◌, ◌≤◌, ◌<◌, ◌^◌}
-use mathlib.Core.List.{map}
-use mathlib.Core.Path.{◌≡◌, refl, sym, ap, ◌∙◌}
-use Rattle.std.proofs.Common.{rules}
+use Prim.Native.Nat.{ℕ, ◌+◌, ◌-◌, ◌*◌, ◌≤◌}
+use mathlib.Core.Path.{◌≡◌, ap, ◌∙◌}
 use Rattle.column_cells.proofs.read.read_cells.Goals as goal
 
 pub loop-row-preserved : goal.loop-row-preserved

@@ -10,7 +10,6 @@ use Rattle.order.proofs.Laws.{drop-fits}
 use Rattle.stringpool.specs.Pool.{Rooms, rooms}
 use Rattle.stringpool.specs.inner.Entries.{Fit}
 use Rattle.stringpool.proofs.Drop.{not_dropped, drop_more, drop-last}
-use Rattle.std.proofs.Common.{rules}
 use Rattle.stringpool.proofs.drops.drop_at.Goals as goal
 
 pub returns-in-Refused : goal.returns-in-Refused

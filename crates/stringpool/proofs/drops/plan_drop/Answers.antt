@@ -10,7 +10,7 @@ use Rattle.common.specs.Lists.{total}
 use Rattle.pool_entries.specs.Calls.{judged_as}
 use Rattle.pool_entries.proofs.Calls.{call_passed, call_size, call_given}
 use Rattle.stringpool.specs.Pool.{Rooms, rooms}
-use Rattle.stringpool.proofs.Drop.{drop-refused, drop-sound}
+use Rattle.stringpool.proofs.Drop.{drop-sound}
 use Rattle.std.proofs.Common.{rules}
 use Rattle.stringpool.proofs.drops.plan_drop.Goals as goal
 

@@ -9,8 +9,7 @@ use Rattle.stringpool.specs.Pool.{Rooms, rooms}
 use Rattle.stringpool.specs.Take.{Chooser, Legal}
 use Rattle.stringpool.specs.inner.Take.{IsChosen}
 use Rattle.stringpool.specs.declared.pool.StringPool.{StringPool}
-use Rattle.stringpool.proofs.Taking.{At, equal-done, Spotted, take-refused, spotted, taken_at}
-use Rattle.std.proofs.Common.{rules}
+use Rattle.stringpool.proofs.Taking.{At, equal-done, Spotted, spotted, taken_at}
 use Rattle.stringpool.proofs.takes.plan_take.Goals as goal
 
 pub put_added-requires : goal.put_added-requires

@@ -1,7 +1,6 @@
 use mathlib.Core.Path.{sym, ap, ◌∙◌}
 use Rattle.order.specs.Order.{fits_as}
 use Rattle.stringpool.proofs.Taking.{not_added, added}
-use Rattle.std.proofs.Common.{rules}
 use Rattle.stringpool.proofs.takes.put_added.Goals as goal
 
 pub returns-in-Refused : goal.returns-in-Refused

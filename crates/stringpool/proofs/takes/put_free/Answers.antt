@@ -1,5 +1,4 @@
 use Rattle.stringpool.proofs.Taking.{free-refused, free-planned}
-use Rattle.std.proofs.Common.{rules}
 use Rattle.stringpool.proofs.takes.put_free.Goals as goal
 
 pub returns-then-used-old : goal.returns-then-used-old

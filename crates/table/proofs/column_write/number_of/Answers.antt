@@ -1,10 +1,5 @@
-use Rattle.table.proofs.Judged.{judged-by, reference-numbered}
-use Rattle.cell.proofs.Forms.{integer-by_kind, reference-by_kind, binary_by_kind}
-use Rattle.common.specs.Answers.{gives}
-use mathlib.Core.Bool.{true, false}
-use mathlib.Core.Path.{sym, ap, ◌∙◌}
-use lib.Dec.{lit≤}
-use Rattle.std.proofs.Common.{rules}
+use Rattle.cell.proofs.Forms.{integer-by_kind, binary_by_kind}
+use mathlib.Core.Path.{sym, ◌∙◌}
 use Rattle.table.proofs.column_write.number_of.Goals as goal
 
 pub returns-in-Int16 : goal.returns-in-Int16

@@ -1,6 +1,6 @@
 use Rattle.common.proofs.Lists.{from_next}
 use Rattle.common.proofs.Answers.{fine-first}
-use Rattle.table.proofs.Plain.{plain_turn, plain_end}
+use Rattle.table.proofs.Plain.{plain_turn}
 use Rattle.column_cells.proofs.Strides.{next_le, next-is}
 use Rattle.table.specs.inner.Columns.{given_bytes, plain}
 use Rattle.column_cells.specs.Strides.{form_width, cell_number}
@@ -10,7 +10,7 @@ use Rattle.cell.specs.Forms.{type_in, long_in}
 use Rattle.cell.specs.Handed.{cell_of}
 use Rattle.little_endian.proofs.Laws.{length-bytes, written}
 use Rattle.little_endian.specs.Numbers.{bytes_of}
-use Rattle.common.proofs.Parts.{over_next, over_none, exact_over}
+use Rattle.common.proofs.Parts.{over_next, exact_over}
 use Rattle.common.specs.Answers.{Answer, gives, cell as place_of, on_given, each, refusal_of}
 use Rattle.common.specs.Lists.{◌over◌, over_at, from}
 use mir.Facts.{to_z-of_z}
@@ -20,11 +20,9 @@ use lib.ListN.{length, get_or, take, drop, length-drop}
 use lib.IntN.{pos}
 use borrow.Rule.Slice.PartMut.{put_mid, same_len_mid}
 use native.Mathlib.Omega.{arith}
-use native.Mathlib.Nat.{sub-zero, zero-mul}
-use Prim.Native.Nat.{ℕ, ◌+◌, ◌-◌, ◌*◌, ◌≤◌, ◌<◌, ◌^◌}
+use Prim.Native.Nat.{ℕ, ◌+◌, ◌-◌, ◌*◌, ◌≤◌}
 use mathlib.Core.List.{List}
 use mathlib.Core.Path.{◌≡◌, refl, sym, ap, ◌∙◌}
-use Rattle.std.proofs.Common.{rules}
 use Rattle.table.proofs.column_write.write_cells.Goals as goal
 
 -- it was judged

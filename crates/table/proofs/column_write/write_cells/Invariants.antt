@@ -1,7 +1,6 @@
 use Rattle.table.specs.inner.Columns.{plain}
 use Rattle.column_cells.specs.Strides.{cell_number}
 use Rattle.table.specs.inner.Strides.{form_bytes}
-use Rattle.little_endian.proofs.Laws.{written}
 use Rattle.common.specs.Answers.{gives, each, refusal_of}
 use Rattle.common.specs.Lists.{◌over◌, over_at, from}
 use lib.ListN.{length}

@@ -3,12 +3,11 @@ use Rattle.widths.specs.Widths.{row_size_lem, type_at}
 use Rattle.table.specs.Layout.{types_of}
 use Rattle.cell.proofs.Cells.{form-width, form_unstored}
 use Rattle.cell.specs.Cells.{width}
-use lib.ListN.{length, length-map, get_or, take}
+use lib.ListN.{length, get_or, take}
 use native.Mathlib.Omega.{arith}
 use native.Mathlib.Nat.{mul-le-mul_right}
 use Prim.Native.Nat.{◌+◌, ◌*◌, ◌≤◌}
 use mathlib.Core.Path.{◌≡◌}
-use Rattle.std.proofs.Common.{rules}
 use Rattle.table.proofs.read.cell_in.Goals as goal
 
 pub overflow_add-start : goal.overflow_add-start

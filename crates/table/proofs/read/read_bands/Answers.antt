@@ -1,15 +1,11 @@
-use Rattle.table.proofs.Grid.{Banded, band_begin, band_turn, band_done, band_within}
+use Rattle.table.proofs.Grid.{band_begin, band_turn, band_done, band_within}
 use Rattle.table.specs.Rows.{cell_at}
 use Rattle.table.specs.Layout.{types_of}
-use Rattle.common.proofs.Writing.{kept}
-use lib.ListN.{length, take, drop, length-drop}
-use lib.Seq.{length-take-le}
 use lib.IntN.{pos}
 use native.Mathlib.Omega.{arith}
 use native.Mathlib.Nat.{mul-le-mul_right}
 use Prim.Native.Nat.{◌+◌, ◌-◌, ◌*◌, ◌≤◌}
 use mathlib.Core.Path.{◌≡◌}
-use Rattle.std.proofs.Common.{rules}
 use Rattle.table.proofs.read.read_bands.Goals as goal
 
 pub loop-first-init : goal.loop-first-init

@@ -1,5 +1,5 @@
 use Rattle.table.proofs.Column.{form-cell}
-use Rattle.table.proofs.Grid.{Filled, filled_none, filled_turn, filled_done, rows_shift}
+use Rattle.table.proofs.Grid.{filled_turn, filled_done, rows_shift}
 use Rattle.table.proofs.Layouts.{column-width, column-start, inside, small}
 use Rattle.column_cells.specs.Strides.{form_width, form_cell}
 use Rattle.table.specs.inner.Columns.{rows_from}
@@ -13,14 +13,13 @@ use Rattle.common.specs.Answers.{Answer}
 use Rattle.cell.proofs.Cells.{form-width}
 use Rattle.cell.specs.Forms.{form_for}
 use Rattle.cell.specs.Cells.{width}
-use lib.ListN.{length, length-map, get_or, take}
+use lib.ListN.{length, get_or, take}
 use lib.IntN.{ℤ, pos}
 use native.Mathlib.Omega.{arith}
 use native.Mathlib.Nat.{add-mul, add-zero, mul-le-mul_right}
-use Prim.Native.Nat.{ℕ, ◌+◌, ◌-◌, ◌*◌, ◌≤◌}
+use Prim.Native.Nat.{ℕ, ◌+◌, ◌*◌, ◌≤◌}
 use mathlib.Core.List.{List}
 use mathlib.Core.Path.{◌≡◌, ap, ◌∙◌}
-use Rattle.std.proofs.Common.{rules}
 use Rattle.table.proofs.read.read_columns.Goals as goal
 
 pub overflow_mul-from : goal.overflow_mul-from

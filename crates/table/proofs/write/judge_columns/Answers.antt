@@ -1,7 +1,7 @@
 use Rattle.cell.specs.Forms.{form_for}
 use Rattle.table.proofs.Column.{column-judged, table_judged}
 use Rattle.table.proofs.Layouts.{types_count}
-use Rattle.common.proofs.Answers.{each_turn, each-stop, each-end}
+use Rattle.common.proofs.Answers.{each_turn, each-stop}
 use Rattle.column_cells.specs.Strides.{cell_number}
 use Rattle.column_cells.proofs.Columns.{judge_handed}
 use Rattle.order.specs.Order.{fits_as}
@@ -10,13 +10,11 @@ use Rattle.widths.specs.Widths.{type_at}
 use Rattle.table.specs.Layout.{types_of}
 use Rattle.common.specs.Answers.{Answer, refusal_of, each}
 use Rattle.common.specs.Lists.{from}
-use lib.ListN.{length, length-map}
+use lib.ListN.{length}
 use native.Mathlib.Omega.{arith}
-use native.Mathlib.Nat.{sub-zero}
-use Prim.Native.Nat.{ℕ, ◌-◌, ◌≤◌}
+use Prim.Native.Nat.{ℕ}
 use mathlib.Core.List.{List}
 use mathlib.Core.Path.{◌≡◌, sym, ap, ◌∙◌}
-use Rattle.std.proofs.Common.{rules}
 use Rattle.table.proofs.write.judge_columns.Goals as goal
 
 pub returns-in-Refused : goal.returns-in-Refused

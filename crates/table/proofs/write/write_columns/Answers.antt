@@ -2,7 +2,7 @@ use Rattle.table.proofs.Column.{column-judged, column-bytes, column-length, colu
 use Rattle.table.proofs.Layouts.{types_count}
 use Rattle.common.proofs.Lists.{from_next}
 use Rattle.common.proofs.Answers.{fine-first}
-use Rattle.table.proofs.Plain.{plain_turn, plain_end}
+use Rattle.table.proofs.Plain.{plain_turn}
 use Rattle.column_cells.specs.Strides.{form_width, cell_number}
 use Rattle.table.specs.inner.Strides.{form_bytes}
 use Rattle.table.specs.inner.Columns.{given_bytes, plain}
@@ -12,17 +12,16 @@ use Rattle.table.specs.Layout.{types_of}
 use Rattle.cell.proofs.Cells.{form-width}
 use Rattle.cell.specs.Forms.{form_for}
 use Rattle.cell.specs.Cells.{width}
-use Rattle.common.proofs.Parts.{over_none, lent_turn, length-tail}
+use Rattle.common.proofs.Parts.{lent_turn, length-tail}
 use Rattle.common.specs.Answers.{Answer, gives, refusal_of, each}
 use Rattle.common.specs.Lists.{◌over◌, over_at, from}
-use lib.ListN.{length, length-map, take, drop}
+use lib.ListN.{length, take, drop}
 use borrow.Rule.Slice.PartMut.{same_len_mid}
 use native.Mathlib.Omega.{arith}
 use native.Mathlib.Nat.{sub-zero, mul-zero, mul-add}
 use Prim.Native.Nat.{ℕ, ◌+◌, ◌-◌, ◌*◌, ◌≤◌}
 use mathlib.Core.List.{List}
 use mathlib.Core.Path.{◌≡◌, refl, sym, ap, ◌∙◌}
-use Rattle.std.proofs.Common.{rules}
 use Rattle.table.proofs.write.write_columns.Goals as goal
 
 pub loop-c-init : goal.loop-c-init

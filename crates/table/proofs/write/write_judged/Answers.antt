@@ -2,19 +2,18 @@ use Rattle.table.specs.inner.Columns.{plain}
 use Rattle.common.specs.Lists.{◌over◌}
 use Rattle.order.specs.Order.{bulk_fits_lem}
 use Rattle.order.proofs.Cells.{Bulk, bulk}
-use Rattle.table.proofs.Answers.{not_fit, bad-cell, no_room, written, given_same}
+use Rattle.table.proofs.Answers.{no_room, written, given_same}
 use Rattle.table.proofs.Layouts.{types_count}
 use Rattle.widths.proofs.Rows.{size-le}
 use Rattle.widths.specs.Widths.{row_size_lem}
 use Rattle.table.specs.Writing.{Cells, column_bytes, table_bytes}
 use Rattle.table.specs.Layout.{types_of}
 use Rattle.common.specs.Answers.{gives, refusal_of}
-use lib.ListN.{length, length-map}
+use lib.ListN.{length}
 use native.Mathlib.Omega.{arith}
 use native.Mathlib.Nat.{mul-le-mul_right}
 use Prim.Native.Nat.{ℕ, ◌*◌}
 use mathlib.Core.Path.{◌≡◌, sym, ap, ◌∙◌}
-use Rattle.std.proofs.Common.{rules}
 use Rattle.table.proofs.write.write_judged.Goals as goal
 
 pub overflow_mul-bytes : goal.overflow_mul-bytes

@@ -1,20 +1,15 @@
-use Rattle.widths.proofs.Judged.{types_count, count-few, columns_refused, columns_passed}
-use Rattle.widths.proofs.Rows.{size-some, size-le, length-widths, widths_refused, widths_given, starts_same, places_same}
-use Rattle.widths.specs.declared.widths.Widths.{Widths}
-use Rattle.widths.specs.Places.{rows_in, rows_found, starts_from}
-use Rattle.widths.specs.Widths.{widths_in, row_size_lem, zeros, widths_for}
+use Rattle.widths.proofs.Judged.{types_count, count-few}
+use Rattle.widths.proofs.Rows.{size-some, size-le, length-widths, widths_given}
+use Rattle.widths.specs.Widths.{widths_in, zeros, widths_for}
 use Rattle.widths.specs.Judged.{used_types, sound_columns}
 use Rattle.cell.specs.declared.form.ColumnType.{ColumnType}
 use Rattle.common.specs.Answers.{gives, refusal_of}
-use Rattle.common.specs.Lists.{◌over◌, total}
-use borrow.Author.Tests.{lt-ltb, le-ltb}
-use lib.ListN.{length, take, drop}
+use Rattle.common.specs.Lists.{total}
+use lib.ListN.{length, drop}
 use lib.Seq.{take_at}
 use native.Mathlib.Omega.{arith}
-use Prim.Native.Nat.{ℕ, ◌/◌}
 use mathlib.Core.List.{List}
-use mathlib.Core.Path.{◌≡◌, sym, ap, ◌∙◌}
-use Rattle.std.proofs.Common.{rules}
+use mathlib.Core.Path.{◌≡◌, ap, ◌∙◌}
 use Rattle.widths.proofs.places.places_of.Goals as goal
 
 pub starts_of-starts-requires : goal.starts_of-starts-requires

@@ -1,15 +1,13 @@
 use Rattle.widths.specs.Places.{starts_from}
-use Rattle.widths.specs.Widths.{zeros}
-use Rattle.common.proofs.Parts.{over_none, over_set}
-use Rattle.common.specs.Lists.{over_at, ◌over◌, total}
-use lib.ListN.{length, get_or, take, drop, length-set, drop_of_length-le}
-use lib.Seq.{length-take-le, slice-cons}
+use Rattle.common.proofs.Parts.{over_set}
+use Rattle.common.specs.Lists.{total}
+use lib.ListN.{length, get_or, take, drop, length-set}
+use lib.Seq.{slice-cons}
 use native.Mathlib.Omega.{arith}
 use native.Mathlib.Numerals.{add-one}
-use Prim.Native.Nat.{◌+◌, ◌-◌, ◌*◌, ◌/◌, ◌≤◌}
-use mathlib.Core.List.{[], ◌∷◌}
-use mathlib.Core.Path.{◌≡◌, refl, sym, ◌∙◌}
-use Rattle.std.proofs.Common.{rules}
+use Prim.Native.Nat.{◌+◌, ◌*◌, ◌/◌}
+use mathlib.Core.List.{◌∷◌}
+use mathlib.Core.Path.{◌≡◌, ◌∙◌}
 use Rattle.widths.proofs.places.starts_of.Goals as goal
 
 pub loop-c-preserved : goal.loop-c-preserved

@@ -1,22 +1,19 @@
-use Rattle.widths.proofs.Judged.{no_column, columns_next, columns_done, at_turn, at_stop, form_said, judged-is, columns_refused, columns_passed}
+use Rattle.widths.proofs.Judged.{no_column, columns_next, at_turn, at_stop, form_said, judged-is, columns_refused}
 use Rattle.widths.specs.declared.widths.Widths.{Widths}
-use Rattle.widths.specs.Judged.{each_at, used_columns, used_types, sound_column, sound_columns}
-use Rattle.widths.specs.Widths.{widths_in, row_size_lem, zeros, widths_for}
+use Rattle.widths.specs.Judged.{used_columns, used_types, sound_column}
+use Rattle.widths.specs.Widths.{widths_in, widths_for}
 use Rattle.cell.proofs.Cells.{width-le, form-width}
 use Rattle.cell.specs.Cells.{width}
 use Rattle.cell.specs.Forms.{form_as, form_answer}
 use Rattle.cell.specs.declared.form.ColumnType.{ColumnType}
 use Rattle.column.specs.declared.column.Column.{Column}
-use Rattle.common.proofs.Parts.{over_none, over_set}
+use Rattle.common.proofs.Parts.{over_set}
 use Rattle.common.specs.Answers.{gives, refusal_of}
-use Rattle.common.specs.Lists.{over_at, ◌over◌}
-use borrow.Author.Tests.{lt-ltb}
 use lib.ListN.{length, get_or, drop, length-set}
 use native.Mathlib.Omega.{arith}
-use Prim.Native.Nat.{ℕ, ◌+◌, ◌-◌, ◌*◌, ◌≤◌}
-use mathlib.Core.List.{List, [], ◌∷◌, map}
-use mathlib.Core.Path.{◌≡◌, refl, sym, ap, ◌∙◌}
-use Rattle.std.proofs.Common.{rules}
+use Prim.Native.Nat.{ℕ, ◌+◌}
+use mathlib.Core.List.{List, ◌∷◌, map}
+use mathlib.Core.Path.{◌≡◌, sym, ap, ◌∙◌}
 use Rattle.widths.proofs.widths.widths_of.Goals as goal
 
 -- What is still to be stored, stored over what there is, and what the columns that are left say, stay the same
@@ -48,8 +45,7 @@ loop-c-preserved c =
     let w = width this.coltype long in
     let n = next in
     let few = c.if-count-gt-MAX_COLUMNS.false in
-    let sum = rw n at l.invariant.4 in
-    (
+    let sum = rw n at l.invariant.4 in (
       omega arith,
       omega (arith, width_is, width-le this.coltype long),
       length-set l.widths l.c c.width-width.result ∙ l.invariant.2,

@@ -1,4 +1,4 @@
-use Rattle.column.proofs.Types.{sound-type, long-type}
+use Rattle.column.proofs.Types.{sound-type}
 use Rattle.column.proofs.Masks.{all-marks, type-clear}
 use Rattle.column.specs.Columns.{marks}
 use Rattle.column.specs.Bits.{type_bits_lem}
@@ -7,7 +7,6 @@ use mir.Syntax.{w32}
 use native.Mathlib.Omega.{arith}
 use Prim.Native.Nat.{◌+◌, ◌<◌}
 use mathlib.Core.Path.{◌≡◌, ◌∙◌, sym}
-use Rattle.std.proofs.Common.{rules}
 use Rattle.column.proofs.column.Column.bitfield.Goals as goal
 
 pub overflow_cast-result : goal.overflow_cast-result

@@ -4,7 +4,6 @@ use mir.Facts.{to_z-of_z}
 use mir.Val.{of_z}
 use mir.Syntax.{w32}
 use mathlib.Core.Path.{sym}
-use Rattle.std.proofs.Common.{rules}
 use Rattle.column.proofs.column.ColumnBuilder.with_bitfield.Goals as goal
 
 pub returns : goal.returns

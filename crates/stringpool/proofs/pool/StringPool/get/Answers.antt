@@ -10,7 +10,7 @@ use Rattle.common.specs.Lists.{total}
 use Rattle.common.specs.Answers.{Answer, gives, on_given}
 use Rattle.common.proofs.Sums.{total-le, total-in}
 use Rattle.pool_entries.specs.Calls.{judged_as}
-use Rattle.pool_entries.proofs.Calls.{Passed, call_refused, call_passed, call_size}
+use Rattle.pool_entries.proofs.Calls.{Passed, call_passed, call_size}
 use Rattle.stringpool.specs.Pool.{Entry, Rooms, rooms, entries_of}
 use Rattle.stringpool.specs.Refs.{on_reference}
 use Rattle.stringpool.specs.Show.{or_empty, show_answer}

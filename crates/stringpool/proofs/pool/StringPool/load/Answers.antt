@@ -1,10 +1,7 @@
-use mathlib.Core.Path.{sym}
 use mathlib.Core.List.{List}
 use Prim.Native.Nat.{ℕ}
-use lib.Seq.{length-take-le}
 use Rattle.stringpool.specs.Pool.{Rooms, rooms}
-use Rattle.stringpool.proofs.Loads.{by_plan, load_refused, stored, loaded}
-use Rattle.std.proofs.Common.{rules}
+use Rattle.stringpool.proofs.Loads.{by_plan, load_refused, loaded}
 use Rattle.stringpool.proofs.pool.StringPool.load.Goals as goal
 
 pub returns-in-Refused : goal.returns-in-Refused

@@ -7,7 +7,7 @@ use mir.ValLaws.{to_z-of_z}
 use Rattle.common.specs.Lists.{total}
 use Rattle.common.specs.Answers.{Answer, gives, on_given}
 use Rattle.pool_entries.specs.Calls.{judged_as}
-use Rattle.pool_entries.proofs.Calls.{call_refused, call_passed}
+use Rattle.pool_entries.proofs.Calls.{call_passed}
 use Rattle.stringpool.specs.Pool.{Rooms, rooms, entries_of}
 use Rattle.stringpool.specs.Refs.{on_reference}
 use Rattle.stringpool.specs.Show.{refcount_answer}

@@ -6,11 +6,10 @@ use lib.ListN.{take}
 use Rattle.common.specs.Lists.{total}
 use Rattle.common.specs.Answers.{Answer, outcome, written_to}
 use Rattle.pool_entries.specs.Calls.{judged_as}
-use Rattle.pool_entries.proofs.Calls.{call_refused, call_passed, call_size, call_given, call_on}
+use Rattle.pool_entries.proofs.Calls.{call_passed, call_size, call_given, call_on}
 use Rattle.stringpool.specs.Pool.{Rooms, rooms}
 use Rattle.stringpool.specs.Write.{data_bytes}
 use Rattle.stringpool.proofs.Streams.{data_same}
-use Rattle.std.proofs.Common.{rules}
 use Rattle.stringpool.proofs.pool.StringPool.write_data.Goals as goal
 
 pub write_texts-requires : goal.write_texts-requires

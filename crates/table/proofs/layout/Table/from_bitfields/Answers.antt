@@ -1,22 +1,17 @@
-use Rattle.table.proofs.Bits.{bits-given, bits-bad, bits-turn, bits-stop, laid_stop, laid_done}
+use Rattle.table.proofs.Bits.{bits-given, bits-bad, bits-turn, bits-stop, laid_stop}
 use Rattle.widths.specs.Judged.{each_at}
-use Rattle.table.specs.Layout.{unused}
 use Rattle.column.specs.Columns.{building, bits_column, column_made_as}
-use Rattle.common.proofs.Parts.{over_none}
-use Rattle.common.specs.Answers.{gives, on_given}
-use Rattle.common.specs.Lists.{over_at, ◌over◌}
 use mir.Facts.{to_z-of_z}
 use mir.Syntax.{w32}
 use lib.Seq.{drop-cons}
-use lib.ListN.{length, get_or, drop, length-set, drop_of_length-le}
+use lib.ListN.{length, get_or, drop, length-set}
 use lib.IntN.{pos}
-use borrow.Author.Tests.{lt-ltb, le-ltb}
+use borrow.Author.Tests.{le-ltb}
 use native.Mathlib.Omega.{arith}
 use native.Mathlib.Numerals.{add-one}
-use Prim.Native.Nat.{◌+◌, ◌-◌, ◌≤◌}
+use Prim.Native.Nat.{◌+◌}
 use mathlib.Core.List.{◌∷◌}
-use mathlib.Core.Path.{◌≡◌, refl, sym, ap, ◌∙◌}
-use Rattle.std.proofs.Common.{rules}
+use mathlib.Core.Path.{◌≡◌, ◌∙◌}
 use Rattle.table.proofs.layout.Table.from_bitfields.Goals as goal
 
 pub returns-in_default : goal.returns-in_default

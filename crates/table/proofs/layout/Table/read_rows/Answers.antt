@@ -1,11 +1,9 @@
 use Rattle.widths.specs.declared.places.Places.{Places}
 use Rattle.widths.specs.Places.{places_outcome}
-use Rattle.widths.proofs.Rows.{places_refused, places_given}
-use Rattle.table.proofs.Layouts.{lies}
+use Rattle.widths.proofs.Rows.{places_given}
 use Rattle.common.specs.Answers.{gives}
 use lib.ListN.{length}
 use mathlib.Core.Path.{◌≡◌}
-use Rattle.std.proofs.Common.{rules}
 use Rattle.table.proofs.layout.Table.read_rows.Goals as goal
 
 pub returns : goal.returns

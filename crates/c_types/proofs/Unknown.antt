@@ -5,7 +5,7 @@ use mathlib.Core.Bool.{Bool, true, false}
 use mathlib.Core.List.{List, [], ◌∷◌, map}
 use lib.ListN.{get_or}
 use borrow.Author.Tests.{lt-ltb, le-ltb}
-use Rattle.common.specs.Choice.{if◌then◌else◌}
+use Rattle.common.specs.Choice.{when◌then◌else◌}
 use Rattle.common.specs.Answers.{Place, nowhere, column, cell, Answer, refused}
 use Rattle.c_types.specs.Answers.{refusal_at}
 use Rattle.cell.specs.Handed.{unknown}
@@ -42,6 +42,6 @@ pub kept_refused : {A C : Type 0} (f : Answer A → C) (place : Place) (kind : �
     → r ≡ f (on_kind place kind a)
 kept_refused {A} f place kind {n = n} {at = at} e made = made ∙ ap f (go (unknown kind)) ∙ ap (λ (x : Answer A). f (on_kind place kind x)) (sym e)
   where
-    go : (b : Bool) → ◌≡◌ {A = Answer A} (refused n at) (if b then refused n at else refused n at)
+    go : (b : Bool) → ◌≡◌ {A = Answer A} (refused n at) (when b then refused n at else refused n at)
     go true = refl
     go false = refl

@@ -1,6 +1,6 @@
 -- A column as C has it, and the answers that hold one.
 use Rattle.std.specs.Prelude.{ℕ, ◌+◌, true, false, pos}
-use Rattle.common.specs.Choice.{if◌then◌else◌, ◌=?◌}
+use Rattle.common.specs.Choice.{when◌then◌else◌, ◌=?◌}
 use Rattle.common.specs.Sizes.{max_string}
 use Rattle.common.specs.Answers.{Answer}
 use Rattle.cell.specs.Handed.{unknown}
@@ -21,14 +21,14 @@ use Rattle.c_types.specs.declared.columns.RangeParts.{RangeParts}
 -- has only the number to say anew.
 abbrev pub coltype_in : ColumnParts → ColumnType
 coltype_in p =
-    if unknown p.coltype then types.Str (max_string + 1)
-    else if p.coltype =? 0 then types.Int16
-    else if p.coltype =? 1 then types.Int32
-    else if p.coltype =? 2 then types.Str p.max_len
+    when unknown p.coltype then types.Str (max_string + 1)
+    else when p.coltype =? 0 then types.Int16
+    else when p.coltype =? 1 then types.Int32
+    else when p.coltype =? 2 then types.Str p.max_len
     else types.Binary
 
 abbrev pub range_in_lem : ColumnParts → ValueRange
-range_in_lem p = if p.has_range then Within p.min p.max else Any
+range_in_lem p = when p.has_range then Within p.min p.max else Any
 
 abbrev pub builder_in_lem : ColumnParts → ColumnBuilder
 builder_in_lem p = record { is_localizable = p.is_localizable; is_nullable = p.is_nullable; is_primary_key = p.is_primary_key; value_range = range_in_lem p }

@@ -1,6 +1,6 @@
 -- Values as C has them, by kind and number, and the answer that holds one with a pool.
 use Rattle.std.specs.Prelude.{ℕ, List, Bool, ℤ, pos}
-use Rattle.common.specs.Choice.{if◌then◌else◌, ◌=?◌}
+use Rattle.common.specs.Choice.{when◌then◌else◌, ◌=?◌}
 use Rattle.common.specs.Answers.{Answer, nowhere, column}
 use Rattle.stringpool.specs.declared.pool.StringPool.{StringPool}
 use Rattle.stringpool.specs.Pool.{Rooms}
@@ -22,17 +22,17 @@ use Rattle.c_types.specs.declared.answers.CreateAnswer.{CreateAnswer}
 -- "0 Null, 1 Int, 2 Str, 3 Binary"; an unknown kind is judged as Binary is, and `onKind` then refuses it
 abbrev pub value_in_lem : ℕ → ℤ → ValueRef
 value_in_lem kind n =
-    if kind =? 0 then values.Null
-    else if kind =? 1 then values.Int n
-    else if kind =? 2 then values.Str (record { 0 = n })
+    when kind =? 0 then values.Null
+    else when kind =? 1 then values.Int n
+    else when kind =? 2 then values.Str (record { 0 = n })
     else values.Binary
 
 -- the same of a value whose text stands beside it
 abbrev pub plain_in_lem : ℕ → ℤ → Value
 plain_in_lem kind n =
-    if kind =? 0 then plain.Null
-    else if kind =? 1 then plain.Int n
-    else if kind =? 2 then plain.Str
+    when kind =? 0 then plain.Null
+    else when kind =? 1 then plain.Int n
+    else when kind =? 2 then plain.Str
     else plain.Binary
 
 -- a value by its kind and number, as it is handed over, with a pool: 22, 24, then 16 with no place, since the value stands in no cell

@@ -9,7 +9,7 @@ use lib.IntN.{ℤ, pos, negsuc, nat_abs}
 use lib.Signed.{lt_z, mag, non_neg}
 use mir.Syntax.{w32}
 use mir.Val.{Fits}
-use Rattle.common.specs.Choice.{if◌then◌else◌}
+use Rattle.common.specs.Choice.{when◌then◌else◌}
 use Rattle.common.specs.Answers.{Place, nowhere, gives, refused}
 use Rattle.common.proofs.Bools.{clash}
 use Rattle.common.specs.Refs.{reference}
@@ -70,7 +70,7 @@ pub record Good (z w : ℤ) : Type 0 where
 pub good : (z w : ℤ) → gives w ≡ reference nowhere z → Good z w
 good z w e = go (lt_z z (pos 1)) (lt_z (pos 16777215) z) refl refl e
   where
-    go : (a b : Bool) → lt_z z (pos 1) ≡ a → lt_z (pos 16777215) z ≡ b → gives w ≡ (if a || b then refused 8 nowhere else gives z) → Good z w
+    go : (a b : Bool) → lt_z z (pos 1) ≡ a → lt_z (pos 16777215) z ≡ b → gives w ≡ (when a || b then refused 8 nowhere else gives z) → Good z w
     go true b p q r = clash (cc)
     go false true p q r = clash (cc)
     go false false p q r = record { same = cc; low = p; high = q }
@@ -79,7 +79,7 @@ module _ (long : Bool) (at : Place) (z : ℤ) where
   pub reference-refused : (n : ℕ) (p : Place) → refused n p ≡ reference nowhere z → refused 8 at ≡ reference_number long at z
   reference-refused n p e = go (lt_z z (pos 1) || lt_z (pos 16777215) z) refl e
     where
-      go : (a : Bool) → (lt_z z (pos 1) || lt_z (pos 16777215) z) ≡ a → refused n p ≡ (if a then refused 8 nowhere else gives z) → refused 8 at ≡ reference_number long at z
+      go : (a : Bool) → (lt_z z (pos 1) || lt_z (pos 16777215) z) ≡ a → refused n p ≡ (when a then refused 8 nowhere else gives z) → refused 8 at ≡ reference_number long at z
       go true q r = rw q
       go false q r = clash (cc)
 

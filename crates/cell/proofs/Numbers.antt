@@ -7,7 +7,7 @@ use borrow.Author.Tests.{ltb-true, ltb-false, eqb-true, eqb-false, ne_eqb, leb-f
 use lib.Dec.{eqb, ltb, leb}
 use lib.IntN.{ℤ, pos, negsuc, nat_abs, ◌+ℤ◌}
 use lib.Signed.{lt_z}
-use Rattle.common.specs.Choice.{if◌then◌else◌}
+use Rattle.common.specs.Choice.{when◌then◌else◌}
 use Rattle.common.specs.Answers.{Place, gives, refused}
 use Rattle.common.proofs.Bools.{clash}
 use Rattle.cell.specs.declared.value.Cell.{Cell}
@@ -44,7 +44,7 @@ module _ (long : Bool) (at : Place) where
   handed-stored t k n = go (unknown k) (eqb k 0) (eqb k 1) (eqb k 2) refl refl refl refl
     where
       pick : Bool → Bool → Bool → Bool → Cell
-      pick u a b c = if u then cell.Unknown else if a then cell.Null else if b then cell.Int n else if c then cell.Str n else cell.Binary
+      pick u a b c = when u then cell.Unknown else when a then cell.Null else when b then cell.Int n else when c then cell.Str n else cell.Binary
 
       go : (u a b c : Bool) → unknown k ≡ u → eqb k 0 ≡ a → eqb k 1 ≡ b → eqb k 2 ≡ c
           → stored t long at (handed_kind (pick u a b c)) (handed_number (pick u a b c)) ≡ stored t long at k n
@@ -64,7 +64,7 @@ module _ (long : Bool) (at : Place) where
 pub integer-number : (half : ℕ) (at : Place) (z : ℤ) (m : ℕ) → integer half at z ≡ gives m → (nat_abs z < half) × (biased half z ≡ m)
 integer-number half at z m e = go (leb half (nat_abs z)) refl e
   where
-    go : (b : Bool) → leb half (nat_abs z) ≡ b → (if b then refused 17 at else gives (nat_abs (z +ℤ pos half))) ≡ gives m → (nat_abs z < half) × (biased half z ≡ m)
+    go : (b : Bool) → leb half (nat_abs z) ≡ b → (when b then refused 17 at else gives (nat_abs (z +ℤ pos half))) ≡ gives m → (nat_abs z < half) × (biased half z ≡ m)
     go true q r = clash (cc)
     go false q r =
         let g = leb-false half (nat_abs z) q in

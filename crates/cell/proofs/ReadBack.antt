@@ -6,7 +6,7 @@ use native.Mathlib.Omega.{arith}
 use lib.Dec.{eqb, lit<}
 use borrow.Author.Tests.{ne_eqb, eqb-true, eqb-false, le-ltb}
 use lib.IntN.{ℤ, pos, ◌-ℤ◌}
-use Rattle.common.specs.Choice.{if◌then◌else◌}
+use Rattle.common.specs.Choice.{when◌then◌else◌}
 use Rattle.common.specs.Answers.{Place, gives, refused}
 use Rattle.common.proofs.Bools.{clash}
 use Rattle.cell.specs.declared.form.ColumnType.{ColumnType}
@@ -19,7 +19,7 @@ use Rattle.cell.proofs.Cells.{reference-any, reference-short}
 use Rattle.cell.specs.Promises.{reads_as, CellReadBack}
 
 abbrev null_or : Bool → ℕ × ℤ → ℕ × ℤ
-null_or b v = if b then (0, pos 0) else v
+null_or b v = when b then (0, pos 0) else v
 
 -- an integer that was stored
 int_back : (half : ℕ) (at : Place) (z : ℤ) (m : ℕ) → integer half at z ≡ gives m → integer_cell half m ≡ (1, z)
@@ -39,13 +39,13 @@ int_again half at m p h = rw (sub_is m half) (integer-given half at (unbiased ha
 -- ---- the kinds that a column takes
 
 int_kinds : (half : ℕ) (at : Place) (k : ℕ) (z : ℤ) (m : ℕ) (a b : Bool) → eqb k 0 ≡ a → eqb k 1 ≡ b
-    → (if a then gives 0 else if b then integer half at z else refused 16 at) ≡ gives m → integer_cell half m ≡ reads_as k z
+    → (when a then gives 0 else when b then integer half at z else refused 16 at) ≡ gives m → integer_cell half m ≡ reads_as k z
 int_kinds half at k z m true b p q e = let i : 0 ≡ m = cc in rw (← i, p)
 int_kinds half at k z m false false p q e = clash (cc)
 int_kinds half at k z m false true p q e = rw (eqb-true k 1 q) (int_back half at z m e)
 
 module _ (max : ℕ) (long : Bool) (at : Place) (k : ℕ) (z : ℤ) (m : ℕ) where
-  ref_kinds : (a b : Bool) → eqb k 0 ≡ a → eqb k 2 ≡ b → (if a then gives 0 else if b then reference_number long at z else refused 16 at) ≡ gives m → reference_cell m ≡ reads_as k z
+  ref_kinds : (a b : Bool) → eqb k 0 ≡ a → eqb k 2 ≡ b → (when a then gives 0 else when b then reference_number long at z else refused 16 at) ≡ gives m → reference_cell m ≡ reads_as k z
   ref_kinds true b p q e = let i : 0 ≡ m = cc in rw (← i, p)
   ref_kinds false false p q e = clash (cc)
   ref_kinds false true p q e =
@@ -53,7 +53,7 @@ module _ (max : ℕ) (long : Bool) (at : Place) (k : ℕ) (z : ℤ) (m : ℕ) wh
       let r = reference-number long at z m e in
       rw (two, r.is, ne_eqb m 0 (λ i. let l = r.least in omega arith))
 
-binary_kinds : (at : Place) (k : ℕ) (z : ℤ) (m : ℕ) (a b : Bool) → eqb k 0 ≡ a → eqb k 3 ≡ b → (if a then gives 0 else if b then gives 1 else refused 16 at) ≡ gives m → binary_cell m ≡ reads_as k z
+binary_kinds : (at : Place) (k : ℕ) (z : ℤ) (m : ℕ) (a b : Bool) → eqb k 0 ≡ a → eqb k 3 ≡ b → (when a then gives 0 else when b then gives 1 else refused 16 at) ≡ gives m → binary_cell m ≡ reads_as k z
 binary_kinds at k z m true b p q e = let i : 0 ≡ m = cc in rw (← i, p)
 binary_kinds at k z m false true p q e = let i : 1 ≡ m = cc in rw (← i, eqb-true k 3 q)
 binary_kinds at k z m false false p q e = clash (cc)
@@ -66,12 +66,12 @@ cell-read_back Binary long at k z m e = binary_kinds at k z m (eqb k 0) (eqb k 3
 
 -- ---- a stored number fits its width
 
-int_fits : (half : ℕ) (at : Place) (z : ℤ) (m : ℕ) (a b : Bool) → 0 < half → (if a then gives 0 else if b then integer half at z else refused 16 at) ≡ gives m → m < half + half
+int_fits : (half : ℕ) (at : Place) (z : ℤ) (m : ℕ) (a b : Bool) → 0 < half → (when a then gives 0 else when b then integer half at z else refused 16 at) ≡ gives m → m < half + half
 int_fits half at z m true b p e = let i : 0 ≡ m = cc in omega arith
 int_fits half at z m false true p e = int_lt half at z m e
 int_fits half at z m false false p e = clash (cc)
 
-ref_fits : (long : Bool) (at : Place) (z : ℤ) (m : ℕ) (a b : Bool) → (if a then gives 0 else if b then reference_number long at z else refused 16 at) ≡ gives m → m < 256 ^ (if long then 3 else 2)
+ref_fits : (long : Bool) (at : Place) (z : ℤ) (m : ℕ) (a b : Bool) → (when a then gives 0 else when b then reference_number long at z else refused 16 at) ≡ gives m → m < 256 ^ (when long then 3 else 2)
 ref_fits true at z m true b e = let i : 0 ≡ m = cc in omega arith
 ref_fits false at z m true b e = let i : 0 ≡ m = cc in omega arith
 ref_fits true at z m false true e = let r = (reference-number true at z m e).most in omega arith
@@ -84,7 +84,7 @@ stored-fits Int32 long at k z m e = int_fits 2147483648 at z m (eqb k 0) (eqb k 
 stored-fits (Str max) long at k z m e = ref_fits long at z m (eqb k 0) (eqb k 2) e
 stored-fits Binary long at k z m e = go (eqb k 0) (eqb k 3) e
   where
-    go : (a b : Bool) → (if a then gives 0 else if b then gives 1 else refused 16 at) ≡ gives m → m < 65536
+    go : (a b : Bool) → (when a then gives 0 else when b then gives 1 else refused 16 at) ≡ gives m → m < 65536
     go true b f = let i : 0 ≡ m = cc in omega arith
     go false true f = let i : 1 ≡ m = cc in omega arith
     go false false f = clash (cc)
@@ -96,12 +96,12 @@ one zero z = absurd (z refl)
 one (suc k) z = omega arith
 
 int_stored : (half : ℕ) (at : Place) (m : ℕ) (b : Bool) → eqb m 0 ≡ b → m < half + half
-    → (if eqb (null_or b (1, pos m -ℤ pos half)).0 0 then gives 0 else if eqb (null_or b (1, pos m -ℤ pos half)).0 1 then integer half at (null_or b (1, pos m -ℤ pos half)).1 else refused 16 at) ≡ gives m
+    → (when eqb (null_or b (1, pos m -ℤ pos half)).0 0 then gives 0 else when eqb (null_or b (1, pos m -ℤ pos half)).0 1 then integer half at (null_or b (1, pos m -ℤ pos half)).1 else refused 16 at) ≡ gives m
 int_stored half at m true q h = ap gives (sym (eqb-true m 0 q))
 int_stored half at m false q h = int_again half at m (one m (eqb-false m 0 q)) h
 
-ref_stored : (long : Bool) (at : Place) (m : ℕ) (b : Bool) → eqb m 0 ≡ b → m < 256 ^ (if long then 3 else 2)
-    → (if eqb (null_or b (2, pos m)).0 0 then gives 0 else if eqb (null_or b (2, pos m)).0 2 then reference_number long at (null_or b (2, pos m)).1 else refused 16 at) ≡ gives m
+ref_stored : (long : Bool) (at : Place) (m : ℕ) (b : Bool) → eqb m 0 ≡ b → m < 256 ^ (when long then 3 else 2)
+    → (when eqb (null_or b (2, pos m)).0 0 then gives 0 else when eqb (null_or b (2, pos m)).0 2 then reference_number long at (null_or b (2, pos m)).1 else refused 16 at) ≡ gives m
 ref_stored long at m true q h = ap gives (sym (eqb-true m 0 q))
 ref_stored true at m false q h =
     let n = eqb-false m 0 q in
@@ -111,7 +111,7 @@ ref_stored false at m false q h =
     sym (reference-short false at (pos m) (le-ltb m 1 (one m n)) (le-ltb 16777215 m (omega arith)) (omega arith))
 
 bin_stored : (at : Place) (m : ℕ) (b : Bool) → eqb m 0 ≡ b → m ≤ 1
-    → (if eqb (null_or b (3, pos 0)).0 0 then gives 0 else if eqb (null_or b (3, pos 0)).0 3 then gives 1 else refused 16 at) ≡ gives m
+    → (when eqb (null_or b (3, pos 0)).0 0 then gives 0 else when eqb (null_or b (3, pos 0)).0 3 then gives 1 else refused 16 at) ≡ gives m
 bin_stored at m true q h = ap gives (sym (eqb-true m 0 q))
 bin_stored at m false q h = let p = one m (eqb-false m 0 q) in ap gives (omega arith)
 

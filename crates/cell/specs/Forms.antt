@@ -1,6 +1,6 @@
 -- How the cells of a column are stored: by its type and the width of references, without maximum and marks.
 use Rattle.std.specs.Prelude.{ℕ, Bool, true, false}
-use Rattle.common.specs.Choice.{if◌then◌else◌, ◌<?◌}
+use Rattle.common.specs.Choice.{when◌then◌else◌, ◌<?◌}
 use Rattle.common.specs.Sizes.{max_string}
 use Rattle.common.specs.Answers.{Answer, gives, refused, column, on_given}
 use Rattle.common.specs.Refusals.{refused_by}
@@ -17,7 +17,7 @@ use Rattle.cell.specs.declared.form.Stored.TheVariants as stored
 abbrev pub form_for : ColumnType → Bool → CellForm
 form_for type.Int16 long = form.Int16
 form_for type.Int32 long = form.Int32
-form_for (type.Str max) long = if long then form.LongRef else form.ShortRef
+form_for (type.Str max) long = when long then form.LongRef else form.ShortRef
 form_for type.Binary long = form.Binary
 
 -- and a type and a width of references that have the form
@@ -39,7 +39,7 @@ long_in form.Binary = false
 abbrev pub sound_type : ℕ → ColumnType → Answer ColumnType
 sound_type c type.Int16 = gives type.Int16
 sound_type c type.Int32 = gives type.Int32
-sound_type c (type.Str max) = if max_string <? max then refused 19 (column c) else gives (type.Str max)
+sound_type c (type.Str max) = when max_string <? max then refused 19 (column c) else gives (type.Str max)
 sound_type c type.Binary = gives type.Binary
 
 -- else the form of a column of this type

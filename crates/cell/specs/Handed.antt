@@ -1,7 +1,7 @@
 -- Document 01, "Rows": a cell is handed over as "a kind (0 Null, 1 Int, 2 Str, 3 Binary) and a signed 32-bit number",
 -- and the number is "ignored on writing" for Null and Binary.
 use Rattle.std.specs.Prelude.{ℕ, ℤ, pos, Bool}
-use Rattle.common.specs.Choice.{if◌then◌else◌, ◌<?◌, ◌=?◌}
+use Rattle.common.specs.Choice.{when◌then◌else◌, ◌<?◌, ◌=?◌}
 use Rattle.cell.specs.declared.value.Cell.{Cell}
 use Rattle.cell.specs.declared.value.Cell.TheVariants.{Null, Int, Str, Binary, Unknown}
 
@@ -11,10 +11,10 @@ unknown kind = 3 <? kind
 
 abbrev pub cell_of : ℕ → ℤ → Cell
 cell_of kind n =
-    if unknown kind then Unknown
-    else if kind =? 0 then Null
-    else if kind =? 1 then Int n
-    else if kind =? 2 then Str n
+    when unknown kind then Unknown
+    else when kind =? 0 then Null
+    else when kind =? 1 then Int n
+    else when kind =? 2 then Str n
     else Binary
 
 -- the kind and the number again, 4 for a kind that is unknown, 0 for a number that is ignored

@@ -9,7 +9,7 @@ use lib.Dec.{lit<, eqb}
 use mathlib.Core.Bool.{Bool, true, false, not}
 use mathlib.Core.Logic.{⊎_elim}
 use borrow.Author.Tests.{eq-eqb, ne_eqb, eqb-true, eqb-false}
-use Rattle.common.specs.Choice.{if◌then◌else◌}
+use Rattle.common.specs.Choice.{when◌then◌else◌}
 use Rattle.column.specs.Bits.{has, without, type_bits_lem}
 use Rattle.column.specs.inner.Bits.{MaximumFits}
 use Rattle.cell.proofs.Halves.{lt_or_le}
@@ -49,7 +49,7 @@ without-4096 n h =
 
 -- ---- the tests of the code, and those of the definition
 
-without_is : (b : ℕ) (t : Bool) → has 4096 b ≡ t → b - b / 4096 % 2 * 4096 ≡ (if t then b - 4096 else b)
+without_is : (b : ℕ) (t : Bool) → has 4096 b ≡ t → b - b / 4096 % 2 * 4096 ≡ (when t then b - 4096 else b)
 without_is b true e = let one : b / 4096 % 2 ≡ 1 = eqb-true (b / 4096 % 2) 1 e in rw one
 without_is b false e = let no = eqb-false (b / 4096 % 2) 1 e in let z : b / 4096 % 2 ≡ 0 = ⊎_elim (λ x. omega arith) (λ x. absurd (no (omega arith))) (lt_or_le (b / 4096 % 2) 1) in rw z (omega arith)
 
@@ -75,26 +75,26 @@ low_byte_is n = rw (low_byte n) (to_z_pos w32 (omega arith))
 
 -- ---- marks set by masks: a bit that is clear is added
 
-pub add-mark : (k n : ℕ) (on : Bool) → n / 2 ^ k % 2 ≡ 0 → (if on then bit_or n (2 ^ k) else n) ≡ n + (if on then 2 ^ k else 0)
+pub add-mark : (k n : ℕ) (on : Bool) → n / 2 ^ k % 2 ≡ 0 → (when on then bit_or n (2 ^ k) else n) ≡ n + (when on then 2 ^ k else 0)
 add-mark k n true clear =
     let e : bit_or n (2 ^ k) + 0 * 2 ^ k ≡ n + 2 ^ k = rw clear at (set-bit n k) in
     omega arith
 add-mark k n false clear = sym (add-zero n)
 
-mark_le : (on : Bool) (m : ℕ) → (if on then m else 0) ≤ m
+mark_le : (on : Bool) (m : ℕ) → (when on then m else 0) ≤ m
 mark_le true m = omega arith
 mark_le false m = omega arith
 
 -- the three marks, one after the other, on a type's bits
 pub all-marks : (n b₁ b₂ b₃ : ℕ) (l u p : Bool) → n < 4096 → n / 512 % 2 ≡ 0
-    → b₁ ≡ (if l then bit_or n 512 else n) → b₂ ≡ (if u then bit_or b₁ 4096 else b₁) → b₃ ≡ (if p then bit_or b₂ 8192 else b₂)
-    → (b₃ ≡ n + ((if l then 512 else 0) + (if u then 4096 else 0) + (if p then 8192 else 0))) × (b₃ < 16384)
+    → b₁ ≡ (when l then bit_or n 512 else n) → b₂ ≡ (when u then bit_or b₁ 4096 else b₁) → b₃ ≡ (when p then bit_or b₂ 8192 else b₂)
+    → (b₃ ≡ n + ((when l then 512 else 0) + (when u then 4096 else 0) + (when p then 8192 else 0))) × (b₃ < 16384)
 all-marks n b₁ b₂ b₃ l u p small clear e₁ e₂ e₃ =
-    let f₁ : b₁ ≡ n + (if l then 512 else 0) = e₁ ∙ add-mark 9 n l clear in
+    let f₁ : b₁ ≡ n + (when l then 512 else 0) = e₁ ∙ add-mark 9 n l clear in
     let m₁ = mark_le l 512 in
-    let f₂ : b₂ ≡ b₁ + (if u then 4096 else 0) = e₂ ∙ add-mark 12 b₁ u (omega arith) in
+    let f₂ : b₂ ≡ b₁ + (when u then 4096 else 0) = e₂ ∙ add-mark 12 b₁ u (omega arith) in
     let m₂ = mark_le u 4096 in
-    let f₃ : b₃ ≡ b₂ + (if p then 8192 else 0) = e₃ ∙ add-mark 13 b₂ p (omega arith) in
+    let f₃ : b₃ ≡ b₂ + (when p then 8192 else 0) = e₃ ∙ add-mark 13 b₂ p (omega arith) in
     let m₃ = mark_le p 8192 in
     omega arith
 

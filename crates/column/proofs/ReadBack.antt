@@ -6,7 +6,7 @@ use native.Mathlib.Omega.{arith}
 use lib.Dec.{T, eqb, ltb}
 use borrow.Author.Tests.{eqb-true, ltb-false}
 use lib.IntN.{pos}
-use Rattle.common.specs.Choice.{if◌then◌else◌}
+use Rattle.common.specs.Choice.{when◌then◌else◌}
 use Rattle.common.specs.Answers.{gives, refused, on_given}
 use Rattle.common.proofs.Below.{all_below, each, both}
 use Rattle.common.proofs.Bools.{clash}
@@ -20,7 +20,7 @@ use Rattle.column.specs.Columns.{bits_column}
 use Rattle.column.specs.Promises.{type_back, BitsReadBack}
 
 abbrev marked : Bool → Bool → Bool → ℕ
-marked l u p = (if l then 0x200 else 0) + (if u then 0x1000 else 0) + (if p then 0x2000 else 0)
+marked l u p = (when l then 0x200 else 0) + (when u then 0x1000 else 0) + (when p then 0x2000 else 0)
 
 abbrev agree : Bool → Bool → Bool
 agree true b = b
@@ -123,7 +123,7 @@ bits-read_back x b c n e = go x.coltype refl
     go Binary q = rw (← given (rw q at e), q) (back_binary x.is_localizable x.is_nullable x.is_primary_key x.value_range b c)
     go (Str max) q = fits (ltb 255 max) refl (rw q at e)
       where
-        fits : (k : Bool) → ltb 255 max ≡ k → on_given (if k then refused 19 (Rattle.common.specs.Answers.column 0) else gives (Str max)) (λ t. gives (pos (type_bits_lem t + marked x.is_localizable x.is_nullable x.is_primary_key))) ≡ gives n
+        fits : (k : Bool) → ltb 255 max ≡ k → on_given (when k then refused 19 (Rattle.common.specs.Answers.column 0) else gives (Str max)) (λ t. gives (pos (type_bits_lem t + marked x.is_localizable x.is_nullable x.is_primary_key))) ≡ gives n
             → bits_column b c n ≡ gives (record { coltype = type_back x; is_localizable = x.is_localizable; is_nullable = b.is_nullable || x.is_nullable; is_primary_key = x.is_primary_key; value_range = b.value_range })
         fits true f g = clash (cc)
         fits false f g = rw (← given g, q) (back_str max x.is_localizable x.is_nullable x.is_primary_key (omega (arith, ltb-false 255 max f)) x.value_range b c)

@@ -8,7 +8,7 @@ use lib.Dec.{eqb}
 use borrow.Author.Tests.{ne_eqb}
 use mir.Syntax.{w32}
 use mir.Val.{of_z}
-use Rattle.common.specs.Choice.{if◌then◌else◌}
+use Rattle.common.specs.Choice.{when◌then◌else◌}
 use Rattle.column.specs.Bits.{bits_of, has, without, size}
 use Rattle.column.specs.Promises.{UnnamedBits, UnnamedInColumn}
 
@@ -21,7 +21,7 @@ bits_are (negsuc n) = omega arith
 first_fails : (b : ℕ) → 0x4000 ≤ b → eqb (without 0x1000 b) 0x900 ≡ false
 first_fails b h = go (has 0x1000 b)
   where
-    go : (t : Bool) → eqb (if t then b - 0x1000 else b) 0x900 ≡ false
+    go : (t : Bool) → eqb (when t then b - 0x1000 else b) 0x900 ≡ false
     go true = ne_eqb (b - 0x1000) 0x900 (λ e. omega arith)
     go false = ne_eqb b 0x900 (λ e. omega arith)
 

@@ -1,6 +1,6 @@
 -- Document 01, "Value check": a value, with its text beside it.
 use Rattle.std.specs.Prelude.{ℕ, Bool, true, false, not, ◌&&◌, ◌||◌, List, length, ℤ, pos, negsuc}
-use Rattle.common.specs.Choice.{if◌then◌else◌, ◌<?◌, ◌≤?◌, ◌=?◌, ◌<ℤ?◌}
+use Rattle.common.specs.Choice.{when◌then◌else◌, ◌<?◌, ◌≤?◌, ◌=?◌, ◌<ℤ?◌}
 use Rattle.common.specs.Sizes.{max_bytes}
 use Rattle.common.specs.Answers.{Answer, gives, refused, nowhere, on_given}
 use Rattle.common.specs.Refusals.{refused_by}
@@ -49,7 +49,7 @@ suits x value.Binary bytes = is_binary_lem x.coltype
 -- `is_valid_value`: 22 for the text, then 19, else whether the value suits
 abbrev pub check_answer : Column → Value → List ℕ → Answer Bool
 check_answer x v text =
-    if max_bytes <? length text then refused 22 nowhere
+    when max_bytes <? length text then refused 22 nowhere
     else on_given (sound_type 0 x.coltype) (λ t. gives (suits x v (length text)))
 
 abbrev pub validity_as : Validity → Answer Bool

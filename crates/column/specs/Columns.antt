@@ -1,6 +1,6 @@
 -- Document 01, "Columns": a column being made, its marks, and its written bits.
 use Rattle.std.specs.Prelude.{ℕ, ◌+◌, true, false, ◌||◌, ℤ, pos}
-use Rattle.common.specs.Choice.{if◌then◌else◌}
+use Rattle.common.specs.Choice.{when◌then◌else◌}
 use Rattle.common.specs.Answers.{Answer, gives, on_given}
 use Rattle.common.specs.Refusals.{refused_by}
 use Rattle.cell.specs.Forms.{sound_type}
@@ -43,7 +43,7 @@ but_nullable_lem x = record { coltype = x.coltype; is_localizable = x.is_localiz
 
 -- "Written bits: [the type's], plus marks"
 abbrev pub marks : Column → ℕ
-marks x = (if x.is_localizable then 0x200 else 0) + (if x.is_nullable then 0x1000 else 0) + (if x.is_primary_key then 0x2000 else 0)
+marks x = (when x.is_localizable then 0x200 else 0) + (when x.is_nullable then 0x1000 else 0) + (when x.is_primary_key then 0x2000 else 0)
 
 -- `bitfield`: 19, else the bits; a column by itself has the place 0
 abbrev pub bitfield_answer : Column → Answer ℤ

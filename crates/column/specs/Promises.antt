@@ -1,6 +1,6 @@
 -- What is promised of a column's bits.
 use Rattle.std.specs.Prelude.{ℕ, ◌+◌, ◌*◌, ◌≤◌, ◌<◌, ◌≡◌, ◌&&◌, ◌||◌, ℤ}
-use Rattle.common.specs.Choice.{if◌then◌else◌}
+use Rattle.common.specs.Choice.{when◌then◌else◌}
 use Rattle.common.specs.Answers.{gives, on_given}
 use Rattle.cell.specs.declared.form.ColumnType.{ColumnType}
 use Rattle.cell.specs.declared.form.ColumnType.TheVariants.{Str}
@@ -26,7 +26,7 @@ UnnamedInColumn = (b : ColumnBuilder) (c bits k : ℕ) (n : ℤ) → bits < 0x40
 -- "They read back as the same type and marks, except that a Binary column with 0x200 or 0x2000 reads as Str 0";
 -- "a nullable mark made earlier survives reading bits"
 abbrev pub type_back : Column → ColumnType
-type_back x = if is_binary_lem x.coltype && (x.is_localizable || x.is_primary_key) then Str 0 else x.coltype
+type_back x = when is_binary_lem x.coltype && (x.is_localizable || x.is_primary_key) then Str 0 else x.coltype
 
 abbrev pub BitsReadBack : Type 0
 BitsReadBack = (x : Column) (b : ColumnBuilder) (c : ℕ) (n : ℤ) → bitfield_answer x ≡ gives n

@@ -1,7 +1,7 @@
 // A column's type and marks in its bits, read and set by masks.
 ghost use Rattle.std.specs.Prelude.{◌≡◌};
 ghost use Rattle.std.specs.Int.Bits.{bit_or};
-ghost use Rattle.common.specs.Choice.{if◌then◌else◌};
+ghost use Rattle.common.specs.Choice.{when◌then◌else◌};
 ghost use Rattle.column.specs.Bits.{bits_of, type_from, type_bits_lem};
 ghost use Rattle.column.specs.inner.Bits.{read_as, too_long_lem, MaximumFits};
 
@@ -83,7 +83,7 @@ pub(crate) fn type_bits(coltype: ColumnType) -> u32
 
 // The bits with a mark set by its mask, or as they were.
 pub(crate) fn marked(bits: u32, mark: u32, on: bool) -> u32
-    ensures { result ≡ (if on then bit_or bits mark else bits) }
+    ensures { result ≡ (when on then bit_or bits mark else bits) }
 {
     if on { bits | mark } else { bits }
 }

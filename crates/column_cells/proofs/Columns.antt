@@ -8,7 +8,7 @@ use lib.IntN.{ℤ}
 use lib.ListN.{length}
 use borrow.Author.Tests.{le-ltb, lt-leb, eq-eqb, ltb-false, leb-false}
 use Rattle.common.specs.Lists.{from}
-use Rattle.common.specs.Choice.{if◌then◌else◌}
+use Rattle.common.specs.Choice.{when◌then◌else◌}
 use Rattle.common.specs.Answers.{Answer, nowhere, gives, refused, on_given, each, refusal_of}
 use Rattle.common.proofs.Bools.{clash, neither}
 use Rattle.cell.specs.declared.form.CellForm.{CellForm}
@@ -33,7 +33,7 @@ pub stride_inside : (run : Stride) → gives tt ≡ stride_fits run → (run.ste
 stride_inside run e = go (ltb 64 run.step) refl (ltb 65536 run.rows) refl (leb run.step run.column) refl e
   where
     go : (a : Bool) → ltb 64 run.step ≡ a → (b : Bool) → ltb 65536 run.rows ≡ b → (d : Bool) → leb run.step run.column ≡ d
-        → ◌≡◌ {A = Answer (Unit {0})} (gives tt) (if a then refused 20 nowhere else if b then refused 14 nowhere else if d then refused 15 nowhere else gives tt) → (run.step ≤ 64) × (run.rows ≤ 65536) × (run.column < run.step)
+        → ◌≡◌ {A = Answer (Unit {0})} (gives tt) (when a then refused 20 nowhere else when b then refused 14 nowhere else when d then refused 15 nowhere else gives tt) → (run.step ≤ 64) × (run.rows ≤ 65536) × (run.column < run.step)
     go true p b q d r f = clash (cc)
     go false p true q d r f = clash (cc)
     go false p false q true r f = clash (cc)
@@ -44,7 +44,7 @@ read_fit f bytes start kinds numbers run e =
     go (ltb 268435455 bytes) (stride_fits run) refl (ltb bytes (start + run.rows * form_width f)) refl (ltb kinds (run.rows * run.step) || ltb numbers (run.rows * run.step)) refl e
   where
     go : (a : Bool) (x : Answer (Unit {0})) → stride_fits run ≡ x → (b : Bool) → ltb bytes (start + run.rows * form_width f) ≡ b → (d : Bool) → (ltb kinds (run.rows * run.step) || ltb numbers (run.rows * run.step)) ≡ d
-        → ◌≡◌ {A = Answer (Unit {0})} (gives tt) (if a then refused 22 nowhere else on_given x (λ y. if b then refused 15 nowhere else if d then refused 7 nowhere else gives tt)) → Held f bytes start kinds numbers run
+        → ◌≡◌ {A = Answer (Unit {0})} (gives tt) (when a then refused 22 nowhere else on_given x (λ y. when b then refused 15 nowhere else when d then refused 7 nowhere else gives tt)) → Held f bytes start kinds numbers run
     go true x p b q d r g = clash (cc)
     go false (refused n at) p b q d r g = clash (cc)
     go false (gives y) p true q d r g = clash (cc)

@@ -1,6 +1,6 @@
 -- The cells of one column, judged and read.
 use Rattle.std.specs.Prelude.{ℕ, ◌+◌, ◌*◌, ◌&&◌, ◌||◌, not, List, ℤ, length}
-use Rattle.common.specs.Choice.{if◌then◌else◌, ◌<?◌, ◌=?◌}
+use Rattle.common.specs.Choice.{when◌then◌else◌, ◌<?◌, ◌=?◌}
 use Rattle.common.specs.Sizes.{max_bytes}
 use Rattle.common.specs.Lists.{from}
 use Rattle.common.specs.Answers.{Answer, gives, refused, nowhere, on_given, each, refusal_of, outcome}
@@ -13,17 +13,17 @@ abbrev pub judge_column_answer : CellForm → List ℕ → List ℤ → Stride �
 judge_column_answer f kinds numbers run =
     on_given (stride_fits run)
     (λ x.
-    if not (length kinds =? run.rows * run.step && length numbers =? run.rows * run.step) then refused 23 nowhere
+    when not (length kinds =? run.rows * run.step && length numbers =? run.rows * run.step) then refused 23 nowhere
     else refusal_of (each (cell_number f kinds numbers run) (from 0 run.rows)))
 
 -- 22; 20, 14, 15, which is given also where the column does not lie within the stream; 7
 abbrev pub read_fits_lem : CellForm → ℕ → ℕ → ℕ → ℕ → Stride → Answer (Unit {0})
 read_fits_lem f bytes start kinds numbers run =
-    if max_bytes <? bytes then refused 22 nowhere
+    when max_bytes <? bytes then refused 22 nowhere
     else on_given (stride_fits run)
     (λ x.
-    if bytes <? start + run.rows * form_width f then refused 15 nowhere
-    else if kinds <? run.rows * run.step || numbers <? run.rows * run.step then refused 7 nowhere
+    when bytes <? start + run.rows * form_width f then refused 15 nowhere
+    else when kinds <? run.rows * run.step || numbers <? run.rows * run.step then refused 7 nowhere
     else gives tt)
 
 abbrev pub read_column_outcome : CellForm → List ℕ → ℕ → Stride → List ℕ → List ℤ → Answer (Unit {0}) × (List ℕ × List ℤ)

@@ -1,6 +1,6 @@
 -- One column's cells among those of all, by their form.
 use Rattle.std.specs.Prelude.{ℕ, ◌+◌, ◌*◌, List, [], ◌∷◌, map, ℤ, pos, get_or, set}
-use Rattle.common.specs.Choice.{if◌then◌else◌, ◌<?◌, ◌≤?◌}
+use Rattle.common.specs.Choice.{when◌then◌else◌, ◌<?◌, ◌≤?◌}
 use Rattle.common.specs.Sizes.{max_columns, max_rows}
 use Rattle.common.specs.Lists.{from}
 use Rattle.common.specs.Answers.{Answer, gives, refused, nowhere, cell}
@@ -21,9 +21,9 @@ cell_place run r = r * run.step + run.column
 -- at most 64 columns and 65,536 rows, and the column one of them: 20, 14, 15
 abbrev pub stride_fits : Stride → Answer (Unit {0})
 stride_fits run =
-    if max_columns <? run.step then refused 20 nowhere
-    else if max_rows <? run.rows then refused 14 nowhere
-    else if run.step ≤? run.column then refused 15 nowhere
+    when max_columns <? run.step then refused 20 nowhere
+    else when max_rows <? run.rows then refused 14 nowhere
+    else when run.step ≤? run.column then refused 15 nowhere
     else gives tt
 
 -- what the cell of a row stores, or why it cannot be stored

@@ -9,7 +9,7 @@ use native.Mathlib.Omega.{arith}
 use lib.ListN.{length, drop, get_or, drop_of_length-le}
 use lib.Seq.{drop-cons}
 use borrow.Author.Tests.{ltb-false, lt-ltb, le-ltb, le-leb, lt-leb}
-use Rattle.common.specs.Choice.{if◌then◌else◌, ◌<?◌, ◌=?◌}
+use Rattle.common.specs.Choice.{when◌then◌else◌, ◌<?◌, ◌=?◌}
 use Rattle.common.specs.Lists.{◌over◌}
 use Rattle.commands.specs.Words.{byte_at, ends_at, run, digit_of, is_digit_lem, value_of, pairs_in, lesser, end_of, times_at_lem, product, pair_over, bytes_outcome, listed}
 
@@ -69,14 +69,14 @@ module _ (sum : ℕ) (s : List ℕ) (i : ℕ) where
 pub lesser-left : (a b : ℕ) → lesser a b ≤ a
 lesser-left a b = go (a <? b) refl
   where
-    go : (t : Bool) → (a <? b) ≡ t → (if t then a else b) ≤ a
+    go : (t : Bool) → (a <? b) ≡ t → (when t then a else b) ≤ a
     go true e = omega arith
     go false e = ltb-false a b e
 
 pub lesser-right : (a b : ℕ) → lesser a b ≤ b
 lesser-right a b = go (a <? b) refl
   where
-    go : (t : Bool) → (a <? b) ≡ t → (if t then a else b) ≤ b
+    go : (t : Bool) → (a <? b) ≡ t → (when t then a else b) ≤ b
     go true e = omega (arith, borrow.Author.Tests.ltb-true a b e)
     go false e = omega arith
 
@@ -84,7 +84,7 @@ lesser-right a b = go (a <? b) refl
 pub inside : (s : List ℕ) (from to k : ℕ) → k < pairs_in s from to → from + 2 * k + 1 < to
 inside s from to k = go (byte_at s from =? 45) (to <? from) refl
   where
-    go : (t u : Bool) → (to <? from) ≡ u → k < (if t then 0 else if u then 0 else (to - from) / 2) → from + 2 * k + 1 < to
+    go : (t u : Bool) → (to <? from) ≡ u → k < (when t then 0 else when u then 0 else (to - from) / 2) → from + 2 * k + 1 < to
     go true u e h = absurd (not-suc-le-zero h)
     go false true e h = absurd (not-suc-le-zero h)
     go false false e h = omega (arith, h, ltb-false to from e)
@@ -116,7 +116,7 @@ some zero times k n h m = absurd (not-suc-le-zero (native.Mathlib.Nat.le_trans h
     none : (times : ℕ) → product 0 times ≡ 0
     none times = go (4294967295 <? times)
       where
-        go : (t : Bool) → (if t then 0 else 0 * times) ≡ 0
+        go : (t : Bool) → (when t then 0 else 0 * times) ≡ 0
         go true = refl
         go false = native.Mathlib.Nat.zero-mul times
 some (suc once) times k n h m = omega arith

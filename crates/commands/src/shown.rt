@@ -5,7 +5,7 @@ ghost use Rattle.std.specs.Io.KnownBytes.{Appends};
 ghost use Rattle.std.specs.Fmt.{signed_decimal};
 ghost use Rattle.commands.specs.Shown.{cell_shown, is_panic, spaced, refused_shown};
 ghost use Rattle.common.specs.Refusals.{number_of, where_of};
-ghost use Rattle.common.specs.Choice.{if◌then◌else◌};
+ghost use Rattle.common.specs.Choice.{when◌then◌else◌};
 ghost use Rattle.commands.specs.Words.{is_long_lem};
 
 use crate::numbers;
@@ -29,7 +29,7 @@ pub fn number<W: Write>(w: &mut W, n: usize) -> io::Result<()>
 
 pub fn flag<W: Write>(w: &mut W, on: bool) -> io::Result<()>
     ensures answers { IfOk result (λ u. u ≡ tt) }
-    ensures written { OnOk result (Appends (W.contents w.old) (W.contents w.new) ((if on then 49 else 48) ∷ [])) }
+    ensures written { OnOk result (Appends (W.contents w.old) (W.contents w.new) ((when on then 49 else 48) ∷ [])) }
 {
     if on {
         return say(w, b"1");

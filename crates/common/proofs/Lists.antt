@@ -11,17 +11,17 @@ use lib.Seq.{get_or-set_same, get_or-set_other}
 use borrow.Author.Tests.{eqb-true, eqb-false}
 use lib.Dec.{eqb, eqb-zero-suc, eqb-suc-zero, eqb-suc-suc}
 use Rattle.common.specs.Lists.{from}
-use Rattle.common.specs.Choice.{if◌then◌else◌, ◌=?◌}
+use Rattle.common.specs.Choice.{when◌then◌else◌, ◌=?◌}
 
 module _ {A : Type 0} (d : A) where
-  pub get_or-put : (l : List A) (j k : ℕ) (x : A) → j < length l → get_or (set l j x) k d ≡ (if j =? k then x else get_or l k d)
+  pub get_or-put : (l : List A) (j k : ℕ) (x : A) → j < length l → get_or (set l j x) k d ≡ (when j =? k then x else get_or l k d)
   get_or-put l j k x h = go (eqb j k) refl
     where
-      go : (b : Bool) → eqb j k ≡ b → get_or (set l j x) k d ≡ (if b then x else get_or l k d)
+      go : (b : Bool) → eqb j k ≡ b → get_or (set l j x) k d ≡ (when b then x else get_or l k d)
       go true f = ap (λ (i : ℕ). get_or (set l j x) i d) (sym (eqb-true j k f)) ∙ get_or-set_same l j x d h
       go false f = get_or-set_other l j k x d (λ q. eqb-false j k f (sym q))
 
-  pub get_or-snoc : (l : List A) (k : ℕ) (x : A) → get_or (l ++ (x ∷ [])) k d ≡ (if length l =? k then x else get_or l k d)
+  pub get_or-snoc : (l : List A) (k : ℕ) (x : A) → get_or (l ++ (x ∷ [])) k d ≡ (when length l =? k then x else get_or l k d)
   get_or-snoc [] zero x = refl
   get_or-snoc [] (suc k) x = rw (eqb-zero-suc k)
   get_or-snoc (y ∷ l) zero x = rw (eqb-suc-zero (length l))

@@ -5,7 +5,7 @@ use mathlib.Core.List.{List}
 use lib.ListN.{length}
 use borrow.Author.Tests.{ltb-false}
 use mathlib.Core.Bool.{Bool, true, false}
-use Rattle.common.specs.Choice.{if◌then◌else◌, ◌<?◌}
+use Rattle.common.specs.Choice.{when◌then◌else◌, ◌<?◌}
 use Rattle.common.specs.Lists.{◌over◌}
 use Rattle.common.specs.Answers.{Place, nowhere, Answer, gives, refused, on_given, outcome, written_to}
 use Rattle.common.proofs.Bools.{clash}
@@ -16,7 +16,7 @@ pub data Case {A : Type 0} (x : Answer A) (y : A) (P : Type 0) : Type 0 where
   yes : x ≡ gives y → P → Case x y P
 
 -- a test that refuses, and then the rest
-pub test : {A : Type 0} {x : Answer A} {y : A} {P : Type 0} (b : Bool) (n : ℕ) (at : Place) → (b ≡ false → Case x y P) → Case (if b then refused n at else x) y P
+pub test : {A : Type 0} {x : Answer A} {y : A} {P : Type 0} (b : Bool) (n : ℕ) (at : Place) → (b ≡ false → Case x y P) → Case (when b then refused n at else x) y P
 test true n at f = no n at refl
 test false n at f = f refl
 
@@ -25,7 +25,7 @@ pub refused-gives : {A : Type 0} {y : A} {n : ℕ} {at : Place} → refused n at
 refused-gives e = clash (cc)
 
 -- an answer that gives y was refused by no test on the way
-pub past : {A : Type 0} {x : Answer A} {y : A} (b : Bool) (n : ℕ) (at : Place) → (if b then refused n at else x) ≡ gives y → (b ≡ false) × (x ≡ gives y)
+pub past : {A : Type 0} {x : Answer A} {y : A} (b : Bool) (n : ℕ) (at : Place) → (when b then refused n at else x) ≡ gives y → (b ≡ false) × (x ≡ gives y)
 past true n at e = clash (cc)
 past false n at e = (refl, e)
 
@@ -42,7 +42,7 @@ pub wrote : {A B : Type 0} (out result : List A) (more : ℕ × List A → Answe
     → (length result ≤ length out) × (more (length result, result over out) ≡ gives y)
 wrote out result more {y} e = go (length out <? length result) refl e
   where
-    go : (b : Bool) → (length out <? length result) ≡ b → on_given (if b then refused 7 nowhere else gives (length result, result over out)) more ≡ gives y
+    go : (b : Bool) → (length out <? length result) ≡ b → on_given (when b then refused 7 nowhere else gives (length result, result over out)) more ≡ gives y
         → (length result ≤ length out) × (more (length result, result over out) ≡ gives y)
     go true f e = clash (cc)
     go false f e = (ltb-false _ _ f, e)

@@ -1,6 +1,6 @@
 -- The form of every call's meaning: what it answers, in document 01's terms, and what its lent rooms hold afterwards.
 use Rattle.std.specs.Prelude.{ℕ, List, [], ◌∷◌, length}
-use Rattle.common.specs.Choice.{if◌then◌else◌, ◌<?◌}
+use Rattle.common.specs.Choice.{when◌then◌else◌, ◌<?◌}
 use Rattle.common.specs.Lists.{◌over◌}
 
 -- "with the column or cell place for 13, 16, 17, 18, 19 and for 8 in a cell"; a cell by its row, then its column, from 0 on
@@ -36,4 +36,4 @@ refusal_of (refused n at) = refused n at
 
 -- "7 output too small for the whole result"; else the result's length, and the output with the result written to its front
 abbrev pub written_to : {A : Type 0} → List A → List A → Answer (ℕ × List A)
-written_to out result = if length out <? length result then refused 7 nowhere else gives (length result, result over out)
+written_to out result = when length out <? length result then refused 7 nowhere else gives (length result, result over out)

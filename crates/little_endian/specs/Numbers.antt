@@ -1,6 +1,6 @@
 -- Numbers in bytes, the lowest byte first, for every width.
 use Rattle.std.specs.Prelude.{ℕ, zero, suc, ◌+◌, ◌*◌, ◌/◌, ◌%◌, min, List, [], ◌∷◌, length, get_or}
-use Rattle.common.specs.Choice.{if◌then◌else◌, ◌<?◌}
+use Rattle.common.specs.Choice.{when◌then◌else◌, ◌<?◌}
 use Rattle.common.specs.Lists.{over_at}
 use Rattle.common.specs.Answers.{Answer, gives, refused, nowhere, outcome}
 use Rattle.common.specs.Refusals.{refused_by}
@@ -23,7 +23,7 @@ read_answer s at width = number_at (min width 4) s at
 
 -- `write`: 7 where the bytes have no room
 abbrev pub put_answer : ℕ → ℕ → List ℕ → ℕ → Answer (ℕ × List ℕ)
-put_answer n width out at = if length out <? at + width then refused 7 nowhere else gives (width, over_at at (bytes_of width n) out)
+put_answer n width out at = when length out <? at + width then refused 7 nowhere else gives (width, over_at at (bytes_of width n) out)
 
 abbrev pub put_outcome : ℕ → ℕ → List ℕ → ℕ → Answer ℕ × List ℕ
 put_outcome n width out at = outcome out (put_answer n width out at)

@@ -7,7 +7,7 @@ use lib.IntN.{ℤ}
 use lib.ListN.{length}
 use borrow.Author.Tests.{ne_eqb, ltb-true}
 use native.Mathlib.Omega.{arith}
-use Rattle.common.specs.Choice.{if◌then◌else◌, ◌<?◌}
+use Rattle.common.specs.Choice.{when◌then◌else◌, ◌<?◌}
 use Rattle.common.specs.Sizes.{max_bytes}
 use Rattle.common.specs.Answers.{Answer, gives, refused, nowhere, on_given, outcome, refusal_of, written_to}
 use Rattle.common.specs.Refusals.{refused_by}
@@ -35,12 +35,12 @@ refused-kept : {A W : Type 0} (kind : ℕ) (w : W) (a : Answer (A × W)) → (un
     → (on_kind nowhere kind (outcome w a).0, (outcome w a).1) ≡ outcome w (on_kind nowhere kind a)
 refused-kept {A} {W} kind w (gives x) kept = go (unknown kind) refl
   where
-    go : (b : Bool) → unknown kind ≡ b → ◌≡◌ {A = Answer A × W} ((if b then refused 16 nowhere else gives x.0), x.1) (outcome w (if b then refused 16 nowhere else gives x))
+    go : (b : Bool) → unknown kind ≡ b → ◌≡◌ {A = Answer A × W} ((when b then refused 16 nowhere else gives x.0), x.1) (outcome w (when b then refused 16 nowhere else gives x))
     go true e = ap (λ (v : W). (refused 16 nowhere, v)) (kept e)
     go false e = refl
 refused-kept {A} {W} kind w (refused n at) kept = go (unknown kind)
   where
-    go : (b : Bool) → ◌≡◌ {A = Answer A × W} ((if b then refused n at else refused n at), w) (outcome w (if b then refused n at else refused n at))
+    go : (b : Bool) → ◌≡◌ {A = Answer A × W} ((when b then refused n at else refused n at), w) (outcome w (when b then refused n at else refused n at))
     go true = refl
     go false = refl
 
@@ -59,7 +59,7 @@ plain-unknown kind n e = simp (ne_eqb kind 0 (above kind 0 e (omega arith)), ne_
 value_unknown : (kind : ℕ) (n : ℤ) → unknown kind ≡ true → value_in_lem kind n ≡ values.Binary
 value_unknown kind n e = simp (ne_eqb kind 0 (above kind 0 e (omega arith)), ne_eqb kind 1 (above kind 1 e (omega arith)), ne_eqb kind 2 (above kind 2 e (omega arith)))
 
-leaves : {A W : Type 0} (w : W) (x : A) (b c d : Bool) → (outcome w (if b then refused 22 nowhere else if c then refused 22 nowhere else if d then refused 24 nowhere else gives (x, w))).1 ≡ w
+leaves : {A W : Type 0} (w : W) (x : A) (b c d : Bool) → (outcome w (when b then refused 22 nowhere else when c then refused 22 nowhere else when d then refused 24 nowhere else gives (x, w))).1 ≡ w
 leaves w x true c d = refl
 leaves w x false true d = refl
 leaves w x false false true = refl
@@ -84,7 +84,7 @@ pub kind_refused : {A : Type 0} (kind : ℕ) (shown : Answer A) (why : Refusal) 
 kind_refused kind (gives t) why e = absurd (refused-gives e)
 kind_refused {A} kind (refused n at) why e = e ∙ go (unknown kind)
   where
-    go : (b : Bool) → refused n at ≡ refusal_of (if◌then◌else◌ {A = Answer A} b (refused n at) (refused n at))
+    go : (b : Bool) → refused n at ≡ refusal_of (when◌then◌else◌ {A = Answer A} b (refused n at) (refused n at))
     go true = refl
     go false = refl
 

@@ -1,6 +1,6 @@
 -- A call that judges first, by what the judge answers.
 use Rattle.std.proofs.Common.{◌≡◌, ℕ, ◌≤◌, Bool, true, false, not, leb, length, take, sym, refl, ◌∙◌, ap₂, ltb-false, leb-true}
-use Rattle.common.specs.Choice.{if◌then◌else◌, ◌<?◌}
+use Rattle.common.specs.Choice.{when◌then◌else◌, ◌<?◌}
 use Rattle.common.specs.Lists.{total}
 use Rattle.common.specs.Answers.{Answer, gives, refused, Place, nowhere}
 use Rattle.common.proofs.Outcomes.{refused-gives}
@@ -31,7 +31,7 @@ same_refusal e = cc
 -- the judge would give b
 module _ {B : Type 0} (n page : ℕ) (w : Rooms) (b : B) where
   abbrev By : {A : Type 0} → Bool → Bool → Answer A → Answer A
-  By over sound a = if over then refused 22 nowhere else if not sound then refused 24 nowhere else a
+  By over sound a = when over then refused 22 nowhere else when not sound then refused 24 nowhere else a
 
   -- the judge's refusal is the call's
   pub call_refused : {A : Type 0} (a : Answer A) {k : ℕ} {at : Place} → refused k at ≡ on_sound_rooms n page w (gives b) → refused k at ≡ on_sound_rooms n page w a

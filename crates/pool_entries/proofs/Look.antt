@@ -1,6 +1,6 @@
 -- Laws of the searches, entry by entry.
 use Rattle.std.proofs.Common.{◌≡◌, ℕ, ◌+◌, ◌<◌, ◌≤◌, Bool, true, false, not, ◌&&◌, ◌||◌, ltb, List, length, get_or, take, drop, sym, refl, ap, ◌∙◌, subst, ap₂, ⊎_elim, arith, length-drop, length-take-le, le-ltb, lt-ltb, eq-eqb, ne_eqb}
-use Rattle.common.specs.Choice.{if◌then◌else◌}
+use Rattle.common.specs.Choice.{when◌then◌else◌}
 use Rattle.common.specs.Lists.{total}
 use Rattle.common.proofs.Bools.{lt_or_le}
 use Rattle.common.proofs.Sums.{total-in}
@@ -125,11 +125,11 @@ module _ (n : ℕ) (w : Rooms) (t : List ℕ) where
   -- ---- the default choice
 
   module _ (fit : Fit n w) (k s : ℕ) (u : UpAt n w t 0 n k s) where
-    by_place : (b : Bool) → ltb k n ≡ b → equal_then_free_lem t (first_entries n w) ≡ (if b then k else first_place free (first_entries n w))
+    by_place : (b : Bool) → ltb k n ≡ b → equal_then_free_lem t (first_entries n w) ≡ (when b then k else first_place free (first_entries n w))
     by_place b e =
-        ap₂ (λ (x y : ℕ). if ltb x y then x else first_place free (first_entries n w))
+        ap₂ (λ (x y : ℕ). when ltb x y then x else first_place free (first_entries n w))
         (first-at (can_count_up_lem t) fit k u.within (λ j q. u.before fit j (omega arith) q) (λ q. u.here q fit)) (length-entries n w fit)
-        ∙ ap (λ (x : Bool). if x then k else first_place free (first_entries n w)) e
+        ∙ ap (λ (x : Bool). when x then k else first_place free (first_entries n w)) e
 
     pub prefers_up : k < n → k ≡ equal_then_free_lem t (first_entries n w)
     prefers_up h = sym (by_place true (lt-ltb k n h))
@@ -146,7 +146,7 @@ module _ (choose : Chooser) (n page : ℕ) (w : Rooms) (t : List ℕ) where
   choose_over h = simp (lt-ltb 268435455 (length t) h)
 
   pub choose_on : length t ≤ 268435455 → on_sound_rooms n page w (gives (spot_at n w (choose t (first_entries n w)))) ≡ choose_answer choose n page w t
-  choose_on h = sym (ap (λ (b : Bool). if b then refused 22 nowhere else on_sound_rooms n page w (gives (spot_at n w (choose t (first_entries n w))))) (le-ltb 268435455 (length t) h))
+  choose_on h = sym (ap (λ (b : Bool). when b then refused 22 nowhere else on_sound_rooms n page w (gives (spot_at n w (choose t (first_entries n w))))) (le-ltb 268435455 (length t) h))
 
   -- what was found in a state that fits
   pub spot_found : (k s u : ℕ) → k ≡ choose t (first_entries n w) → s ≡ total (take k w.lengths) → u ≡ total (take n w.lengths)

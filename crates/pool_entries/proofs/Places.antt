@@ -1,6 +1,6 @@
 -- Laws of the place that a take chooses; both ways of choosing are legal.
 use Rattle.std.proofs.Common.{◌≡◌, ℕ, zero, suc, ◌+◌, ◌<◌, ◌≤◌, Bool, true, false, not, ◌&&◌, ◌||◌, ltb, List, [], ◌∷◌, length, get_or, refl, ap, ◌∙◌, ap₂, le_of_suc-le-suc, not-suc-le-zero, add-one, arith}
-use Rattle.common.specs.Choice.{if◌then◌else◌}
+use Rattle.common.specs.Choice.{when◌then◌else◌}
 use Rattle.common.proofs.Bools.{clash}
 use Rattle.pool_entries.specs.Entries.{Entry, entry, free}
 use Rattle.pool_entries.specs.Choose.{equal, first_place, first_free_or_equal, can_count_up_lem, equal_then_free_lem, Legal}
@@ -16,7 +16,7 @@ pub first-place : (f : Entry → Bool) (es : List Entry) → First f es (first_p
 first-place f [] = (omega arith, λ q. absurd (not-suc-le-zero q))
 first-place f (e ∷ es) = go (f e) refl (first-place f es)
   where
-    go : (b : Bool) → f e ≡ b → First f es (first_place f es) → First f (e ∷ es) (if b then 0 else first_place f es + 1)
+    go : (b : Bool) → f e ≡ b → First f es (first_place f es) → First f (e ∷ es) (when b then 0 else first_place f es + 1)
     go true g h = (omega arith, λ q. g)
     go false g h = first_next f e es (first_place f es) h
 
@@ -24,9 +24,9 @@ first-place f (e ∷ es) = go (f e) refl (first-place f es)
 pub place_found : (f : Entry → Bool) (es : List Entry) (k : ℕ) → k ≤ length es
     → ((j : ℕ) → j < k → f (get_or es j (entry [] 0)) ≡ false) → (k < length es → f (get_or es k (entry [] 0)) ≡ true) → first_place f es ≡ k
 place_found f [] k g b c = omega arith
-place_found f (e ∷ es) zero g b c = ap (λ (x : Bool). if x then 0 else first_place f es + 1) (c (omega arith))
+place_found f (e ∷ es) zero g b c = ap (λ (x : Bool). when x then 0 else first_place f es + 1) (c (omega arith))
 place_found f (e ∷ es) (suc k) g b c =
-    ap₂ (λ (x : Bool) (m : ℕ). if x then 0 else m + 1) (b 0 (omega arith))
+    ap₂ (λ (x : Bool) (m : ℕ). when x then 0 else m + 1) (b 0 (omega arith))
     (place_found f es k (le_of_suc-le-suc g) (λ j q. b (suc j) (omega arith)) (λ q. c (omega arith)))
     ∙ add-one k
 
@@ -55,6 +55,6 @@ equal-then_free t es = go (ltb (first_place (can_count_up_lem t) es) (length es)
     is_free false b q = clash (cc)
 
     go : (b : Bool) → First (can_count_up_lem t) es (first_place (can_count_up_lem t) es) → First free es (first_place free es)
-        → Suits (if b then first_place (can_count_up_lem t) es else first_place free es)
+        → Suits (when b then first_place (can_count_up_lem t) es else first_place free es)
     go true g h = let e : Entry = get_or es (first_place (can_count_up_lem t) es) (entry [] 0) in (g.0, λ q. one_passes (free e) (equal t e) (g.1 q))
     go false g h = let e : Entry = get_or es (first_place free es) (entry [] 0) in (h.0, λ q. is_free (free e) (equal t e) (h.1 q))

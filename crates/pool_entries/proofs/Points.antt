@@ -2,7 +2,7 @@
 use Rattle.std.proofs.Common.{◌≡◌, ℕ, Bool, true, false, not, ◌&&◌, ◌||◌, List, [], ◌∷◌, length, take, sym, refl, ap, ◌∙◌, ap₂, arith, le-ltb, lt-ltb, le-leb}
 use mathlib.Core.Bool.{and-false, and-true}
 use borrow.Author.Tests.{lt-leb}
-use Rattle.common.specs.Choice.{if◌then◌else◌, ◌≤?◌}
+use Rattle.common.specs.Choice.{when◌then◌else◌, ◌≤?◌}
 use Rattle.common.specs.Lists.{total}
 use Rattle.common.specs.Answers.{gives, refused, nowhere}
 use Rattle.pool_entries.specs.Entries.{Entry, rooms, first_entries, entry_room_lem, free, all}
@@ -16,9 +16,9 @@ one_entry : (ts : List ℕ) (l c : ℕ) (is : Bool) → length ts ≡ l → smal
 unfolding fits_b
 one_entry ts l c is e f t =
     sound-same 1 0 (rooms (l ∷ []) (c ∷ []) ts)
-    ∙ ap₂ (λ (a b : Bool). if (if a then true else false) then b else false) f (le-leb (total (l ∷ [])) (length ts) (omega (arith, t, e))) ∙ go is
+    ∙ ap₂ (λ (a b : Bool). when (when a then true else false) then b else false) f (le-leb (total (l ∷ [])) (length ts) (omega (arith, t, e))) ∙ go is
   where
-    go : (b : Bool) → (if (if b then true else false) then true else false) ≡ b
+    go : (b : Bool) → (when (when b then true else false) then true else false) ≡ b
     go true = refl
     go false = refl
 
@@ -26,7 +26,7 @@ pub size-first : SizeFirst
 size-first = (
   λ n page w h. sym (judge_size n page w (gives (total (take n w.lengths))) h),
   λ n page w h e.
-      ap₂ (λ (x y : Bool). if x then refused 22 nowhere else if not y then refused 24 nowhere else gives (total (take n w.lengths))) (le-ltb 268435455 (length w.text) h) e,
+      ap₂ (λ (x y : Bool). when x then refused 22 nowhere else when not y then refused 24 nowhere else gives (total (take n w.lengths))) (le-ltb 268435455 (length w.text) h) e,
 )
 
 pub text-first : TextFirst

@@ -2,7 +2,7 @@
 use Rattle.std.proofs.Common.{◌≡◌, ℕ, zero, suc, ◌+◌, ◌<◌, ◌≤◌, min, Bool, true, false, not, ◌&&◌, ◌||◌, eqb, ltb, leb, List, [], ◌∷◌, length, get_or, take, drop, sym, refl, ap, ◌∙◌, subst, ap₂, add-one, arith, length-drop, length-take-le, get_or-drop, drop-cons, get_or-take, ltb-false, ltb-true, le-ltb, lt-ltb, ne_eqb, le-leb, leb-true}
 use lib.Seq.{drop-length}
 use borrow.Author.Tests.{lt-leb}
-use Rattle.common.specs.Choice.{if◌then◌else◌, ◌≤?◌, ◌=?◌}
+use Rattle.common.specs.Choice.{when◌then◌else◌, ◌≤?◌, ◌=?◌}
 use Rattle.common.specs.Lists.{total}
 use Rattle.common.specs.Answers.{Answer, gives, refused, nowhere}
 use Rattle.pool_entries.specs.Entries.{Entry, Rooms, cut, entry_room_lem, free, all}
@@ -22,7 +22,7 @@ use Rattle.pool_entries.specs.declared.judging.State.TheVariants.{Sound, Refused
 -- the entry at i decides, or those after it
 all_small-step : (n : ℕ) (ls cs : List ℕ) (i : ℕ) → n ≤ length ls → n ≤ length cs → i < n
     → all_small_lem (drop i (take n ls)) (drop i (take n cs))
-    ≡ (if small_b (get_or ls i 0) (get_or cs i 0) then all_small_lem (drop (suc i) (take n ls)) (drop (suc i) (take n cs)) else false)
+    ≡ (when small_b (get_or ls i 0) (get_or cs i 0) then all_small_lem (drop (suc i) (take n ls)) (drop (suc i) (take n cs)) else false)
 all_small-step n ls cs i hl hc h =
     let hl' : i < length (take n ls) = simp length-take-le (omega arith) in
     let hc' : i < length (take n cs) = simp length-take-le (omega arith) in
@@ -38,12 +38,12 @@ all_small-end n ls cs hl =
 module _ (n : ℕ) (ls cs : List ℕ) (hl : n ≤ length ls) (hc : n ≤ length cs) (i : ℕ) (inv : SmallTo n ls cs i) where
   pub small-no : i < n → small_b (get_or ls i 0) (get_or cs i 0) ≡ false → false ≡ all_small_lem (take n ls) (take n cs)
   small-no h no' =
-      sym (inv ∙ all_small-step n ls cs i hl hc h ∙ ap (λ (b : Bool). if b then all_small_lem (drop (suc i) (take n ls)) (drop (suc i) (take n cs)) else false) no')
+      sym (inv ∙ all_small-step n ls cs i hl hc h ∙ ap (λ (b : Bool). when b then all_small_lem (drop (suc i) (take n ls)) (drop (suc i) (take n cs)) else false) no')
 
   pub small-next : i < n → small_b (get_or ls i 0) (get_or cs i 0) ≡ true → SmallTo n ls cs (i + 1)
   small-next h yes' =
       inv ∙ all_small-step n ls cs i hl hc h
-      ∙ ap (λ (b : Bool). if b then all_small_lem (drop (suc i) (take n ls)) (drop (suc i) (take n cs)) else false) yes' ∙ rw (add-one i)
+      ∙ ap (λ (b : Bool). when b then all_small_lem (drop (suc i) (take n ls)) (drop (suc i) (take n cs)) else false) yes' ∙ rw (add-one i)
 
   pub small-yes : i ≡ n → true ≡ all_small_lem (take n ls) (take n cs)
   small-yes e = sym (inv ∙ ap (λ (k : ℕ). all_small_lem (drop k (take n ls)) (drop k (take n cs))) e ∙ all_small-end n ls cs hl)
@@ -51,7 +51,7 @@ module _ (n : ℕ) (ls cs : List ℕ) (hl : n ≤ length ls) (hc : n ≤ length 
   -- an entry that is counted is small
   small-counted : i < n → 0 < get_or cs i 0 → SmallTo n ls cs (i + 1)
   small-counted h c =
-      small-next h (ap (λ (b : Bool). (if b then leb (get_or ls i 0) 65535 else true)) (ne_eqb (get_or cs i 0) 0 (λ e. omega arith)))
+      small-next h (ap (λ (b : Bool). (when b then leb (get_or ls i 0) 65535 else true)) (ne_eqb (get_or cs i 0) 0 (λ e. omega arith)))
 
 -- entries that are counted are small
 pub counted-small : (n : ℕ) (ls cs : List ℕ) → n ≤ length ls → n ≤ length cs → (k : ℕ) → k ≤ n → Counted cs 0 k → SmallTo n ls cs k
@@ -64,7 +64,7 @@ counted-small n ls cs hl hc (suc k) h c =
 small-short : (l c : ℕ) → l ≤ 65535 → small_b l c ≡ true
 small-short l c h = go (eqb c 0)
   where
-    go : (b : Bool) → (if b then leb l 65535 else true) ≡ true
+    go : (b : Bool) → (when b then leb l 65535 else true) ≡ true
     go true = le-leb l 65535 h
     go false = refl
 
@@ -73,7 +73,7 @@ all_short [] cs h = refl
 all_short (l ∷ ls) [] h = refl
 all_short (l ∷ ls) (c ∷ cs) h =
     let e : small_b l c ≡ true = small-short l c (h 0 (omega arith)) in
-    ap (λ (b : Bool). (if b then all_small_lem ls cs else false)) e ∙ all_short ls cs (λ k b. h (suc k) (omega arith))
+    ap (λ (b : Bool). (when b then all_small_lem ls cs else false)) e ∙ all_short ls cs (λ k b. h (suc k) (omega arith))
 
 -- ---- the bytes in use
 
@@ -88,14 +88,14 @@ module _ (n : ℕ) (ls cs : List ℕ) (hl : n ≤ length ls) (hc : n ≤ length 
 
   module _ (room u : ℕ) (e : u ≡ total (take n ls)) where
     by_tests : (a b : Bool) → all_small_lem (take n ls) (take n cs) ≡ a → leb u room ≡ b
-        → used_of n ls cs room ≡ (if (if a then b else false) then Sound (total (take n ls)) else Refused Unsound)
+        → used_of n ls cs room ≡ (when (when a then b else false) then Sound (total (take n ls)) else Refused Unsound)
     by_tests a b f g =
-        ap₂ (λ (x y : Bool). if (if x then y else false) then Sound (total (take n ls)) else Refused Unsound) f (ap (λ (k : ℕ). leb k room) (sym e) ∙ g)
+        ap₂ (λ (x y : Bool). when (when x then y else false) then Sound (total (take n ls)) else Refused Unsound) f (ap (λ (k : ℕ). leb k room) (sym e) ∙ g)
 
     pub used_over : room < u → Refused Unsound ≡ used_of n ls cs room
     used_over h = sym (by_tests (all_small_lem (take n ls) (take n cs)) false refl (lt-leb u room h) ∙ go (all_small_lem (take n ls) (take n cs)))
       where
-        go : (a : Bool) → (if (if a then false else false) then Sound (total (take n ls)) else Refused Unsound) ≡ Refused Unsound
+        go : (a : Bool) → (when (when a then false else false) then Sound (total (take n ls)) else Refused Unsound) ≡ Refused Unsound
         go true = refl
         go false = refl
 
@@ -120,7 +120,7 @@ small_all (l ∷ ls) (c ∷ cs) ts h =
     ap₂ (λ (i : ℕ) (b : Bool). (not (c =? 0) || i ≤? 65535) && b) (length-take-le l ts (omega arith)) (small_all ls cs (drop l ts) (simp length-drop (omega arith)))
     ∙ go (c =? 0) (l ≤? 65535) (all_small_lem ls cs)
   where
-    go : (a b x : Bool) → ((not a || b) && x) ≡ (if (if a then b else true) then x else false)
+    go : (a b x : Bool) → ((not a || b) && x) ≡ (when (when a then b else true) then x else false)
     go true true x = refl
     go true false x = refl
     go false b x = refl
@@ -142,7 +142,7 @@ leb-min n a b = go (ltb a n) (ltb b n) refl refl
     go false false e f = le-leb n (min a b) (omega (arith, ltb-false a n e, ltb-false b n f))
 
 -- 01's tests in one row, and the code's in its order
-sound-tests : (a b c x e f : Bool) → ((not a && not b) && not c && x && f && e) ≡ (if (if a then false else if b then false else if c then false else x) then (if e then f else false) else false)
+sound-tests : (a b c x e f : Bool) → ((not a && not b) && not c && x && f && e) ≡ (when (when a then false else when b then false else when c then false else x) then (when e then f else false) else false)
 sound-tests true b c x e f = refl
 sound-tests false true c x e f = refl
 sound-tests false false true x e f = refl
@@ -177,11 +177,11 @@ pub false_true : ◌≡◌ {A = Bool} false true → ⊥
 false_true q = let y : ◌≡◌ {A = ℕ} 0 1 = cc in omega arith
 
 -- a refusing test did not fire, and what follows it holds
-pub not_first : (b x : Bool) → (if b then false else x) ≡ true → (b ≡ false) × (x ≡ true)
+pub not_first : (b x : Bool) → (when b then false else x) ≡ true → (b ≡ false) × (x ≡ true)
 not_first true x e = absurd (false_true e)
 not_first false x e = (refl, e)
 
-pub then_second : (b x : Bool) → (if b then x else false) ≡ true → (b ≡ true) × (x ≡ true)
+pub then_second : (b x : Bool) → (when b then x else false) ≡ true → (b ≡ true) × (x ≡ true)
 then_second true x e = (refl, e)
 then_second false x e = absurd (false_true e)
 
@@ -195,8 +195,8 @@ pub fits_few : (n page : ℕ) (ls cs : List ℕ) → fits_b n page ls cs ≡ tru
 unfolding fits_b
 fits_few n page ls cs e =
     let x₂ : Bool = leb page 2147483647 in
-    let x₁ : Bool = if ltb 16777215 n then false else x₂ in
-    let a = not_first (ltb (length ls) n) (if ltb (length cs) n then false else x₁) e in
+    let x₁ : Bool = when ltb 16777215 n then false else x₂ in
+    let a = not_first (ltb (length ls) n) (when ltb (length cs) n then false else x₁) e in
     let b = not_first (ltb (length cs) n) x₁ a.1 in
     let c = not_first (ltb 16777215 n) x₂ b.1 in
     record { lengths = ltb-false _ _ a.0; counts = ltb-false _ _ b.0; few = ltb-false _ _ c.0; codepage = leb-true _ _ c.1 }
@@ -208,30 +208,30 @@ module _ {A : Type 0} (n page : ℕ) (w : Rooms) (a : Answer A) where
   judge_size h = simp (lt-ltb 268435455 (length w.text) h)
 
   module _ (hw : length w.text ≤ 268435455) where
-    by_sound : (b : Bool) → sound_b n page w ≡ b → (if not b then refused 24 nowhere else a) ≡ on_sound_rooms n page w a
+    by_sound : (b : Bool) → sound_b n page w ≡ b → (when not b then refused 24 nowhere else a) ≡ on_sound_rooms n page w a
     by_sound b e =
-        sym (ap₂ (λ (x y : Bool). if x then refused 22 nowhere else if not y then refused 24 nowhere else a)
+        sym (ap₂ (λ (x y : Bool). when x then refused 22 nowhere else when not y then refused 24 nowhere else a)
         (le-ltb 268435455 (length w.text) hw) (sound-same n page w ∙ e))
 
     pub judge_out : fits_b n page w.lengths w.counts ≡ false → refused 24 nowhere ≡ on_sound_rooms n page w a
-    judge_out e = by_sound false (ap (λ (b : Bool). if b then sums_b n w.lengths w.counts (length w.text) else false) e)
+    judge_out e = by_sound false (ap (λ (b : Bool). when b then sums_b n w.lengths w.counts (length w.text) else false) e)
 
     module _ (fits : fits_b n page w.lengths w.counts ≡ true) where
       abbrev Sums : Bool
       Sums = sums_b n w.lengths w.counts (length w.text)
 
       sound-is : (b : Bool) → Sums ≡ b → sound_b n page w ≡ b
-      sound-is b e = ap (λ (x : Bool). if x then Sums else false) fits ∙ e
+      sound-is b e = ap (λ (x : Bool). when x then Sums else false) fits ∙ e
 
       pub judge_unsound : (x : Refusal) → Refused x ≡ used_of n w.lengths w.counts (length w.text) → refused_by x ≡ on_sound_rooms n page w a
       judge_unsound x e = ap refused_by (go Sums e).1 ∙ by_sound false (sound-is false (go Sums e).0)
         where
-          go : (b : Bool) → Refused x ≡ (if b then Sound (total (take n w.lengths)) else Refused Unsound) → (b ≡ false) × (x ≡ Unsound)
+          go : (b : Bool) → Refused x ≡ (when b then Sound (total (take n w.lengths)) else Refused Unsound) → (b ≡ false) × (x ≡ Unsound)
           go true q = let y : ◌≡◌ {A = ℕ} 0 1 = cc in absurd (omega arith)
           go false q = (refl, cc)
 
       module _ (b : ℕ) (e : Sound b ≡ used_of n w.lengths w.counts (length w.text)) where
-        go : (c : Bool) → Sound b ≡ (if c then Sound (total (take n w.lengths)) else Refused Unsound) → (c ≡ true) × (b ≡ total (take n w.lengths))
+        go : (c : Bool) → Sound b ≡ (when c then Sound (total (take n w.lengths)) else Refused Unsound) → (c ≡ true) × (b ≡ total (take n w.lengths))
         go true q = (refl, cc)
         go false q = let y : ◌≡◌ {A = ℕ} 0 1 = cc in absurd (omega arith)
 
@@ -255,6 +255,6 @@ judge_on n page w hw fits = go (sums_b n w.lengths w.counts (length w.text)) ref
     u : ℕ
     u = total (take n w.lengths)
 
-    go : (b : Bool) → sums_b n w.lengths w.counts (length w.text) ≡ b → judged_as (if b then Sound u else Refused Unsound) ≡ on_sound_rooms n page w (gives u)
+    go : (b : Bool) → sums_b n w.lengths w.counts (length w.text) ≡ b → judged_as (when b then Sound u else Refused Unsound) ≡ on_sound_rooms n page w (gives u)
     go true e = by_sound n page w (gives u) hw true (sound-is n page w (gives u) hw fits true e)
     go false e = by_sound n page w (gives u) hw false (sound-is n page w (gives u) hw fits false e)

@@ -1,7 +1,7 @@
 -- What the judging of a state answers, and the search of a take: for the crate above; the desk reads stringpool/specs/Take.antt.
 use Rattle.std.specs.Prelude.{ℕ, List, length, take}
 use Rattle.common.specs.Sizes.{max_bytes}
-use Rattle.common.specs.Choice.{if◌then◌else◌, ◌<?◌}
+use Rattle.common.specs.Choice.{when◌then◌else◌, ◌<?◌}
 use Rattle.common.specs.Lists.{total}
 use Rattle.common.specs.Answers.{Answer, gives, refused, nowhere}
 use Rattle.common.specs.Refusals.{refused_by}
@@ -24,7 +24,7 @@ spot_at n w k = (k, total (take k w.lengths), total (take n w.lengths))
 -- 22 for the text and for the text room, then 24; of a sound state, the place that a take by this choice has
 abbrev pub choose_answer : Chooser → ℕ → ℕ → Rooms → List ℕ → Answer (ℕ × ℕ × ℕ)
 choose_answer choose n codepage w t =
-    if max_bytes <? length t then refused 22 nowhere
+    when max_bytes <? length t then refused 22 nowhere
     else on_sound_rooms n codepage w (gives (spot_at n w (choose t (first_entries n w))))
 
 abbrev pub judged_as : State → Answer ℕ

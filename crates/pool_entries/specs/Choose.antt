@@ -1,6 +1,6 @@
 -- Which entry a take chooses.
 use Rattle.std.specs.Prelude.{◌≡◌, ℕ, ◌+◌, ◌<◌, ◌≤◌, Bool, true, false, not, ◌&&◌, ◌||◌, List, [], ◌∷◌, length, slice_index_or}
-use Rattle.common.specs.Choice.{if◌then◌else◌, ◌<?◌, ◌=?◌}
+use Rattle.common.specs.Choice.{when◌then◌else◌, ◌<?◌, ◌=?◌}
 use Rattle.pool_entries.specs.Entries.{Entry, entry, free}
 
 -- "the same bytes"
@@ -17,7 +17,7 @@ equal t e = same_bytes e.text t && e.count <? 65535
 -- the place of the first that passes; with none, the place after the last
 abbrev pub first_place : (Entry → Bool) → List Entry → ℕ
 first_place f [] = 0
-first_place f (e ∷ es) = if f e then 0 else first_place f es + 1
+first_place f (e ∷ es) = when f e then 0 else first_place f es + 1
 
 -- a text and the entries give a place; that after the last is a new entry's
 abbrev pub Chooser : Type 0
@@ -35,7 +35,7 @@ can_count_up_lem t e = not (free e) && equal t e
 abbrev pub equal_then_free_lem : Chooser
 equal_then_free_lem t es =
     let k = first_place (can_count_up_lem t) es in
-    if k <? length es then k else first_place free es
+    when k <? length es then k else first_place free es
 
 -- a choice that keeps the counts: a free entry, or one with the same bytes and a count below 65,535, or a new one
 abbrev pub Legal : Chooser → Type 0

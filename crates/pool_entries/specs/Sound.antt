@@ -1,7 +1,7 @@
 -- When a state is sound: its entry count, its code page and the lent rooms.
 use Rattle.std.specs.Prelude.{ℕ, Bool, not, ◌&&◌, ◌||◌, length, take}
 use Rattle.common.specs.Sizes.{max_bytes, max_entries, max_codepage}
-use Rattle.common.specs.Choice.{if◌then◌else◌, ◌<?◌, ◌≤?◌}
+use Rattle.common.specs.Choice.{when◌then◌else◌, ◌<?◌, ◌≤?◌}
 use Rattle.common.specs.Lists.{total}
 use Rattle.common.specs.Answers.{Answer, refused, nowhere}
 use Rattle.pool_entries.specs.Entries.{Entry, Rooms, first_entries, entry_room_lem, free, all}
@@ -17,6 +17,6 @@ sound_rooms n codepage w =
 -- "Order: 22 first, then 24."
 abbrev pub on_sound_rooms : {A : Type 0} → ℕ → ℕ → Rooms → Answer A → Answer A
 on_sound_rooms n codepage w a =
-    if max_bytes <? length w.text then refused 22 nowhere
-    else if not (sound_rooms n codepage w) then refused 24 nowhere
+    when max_bytes <? length w.text then refused 22 nowhere
+    else when not (sound_rooms n codepage w) then refused 24 nowhere
     else a

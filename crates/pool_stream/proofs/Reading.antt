@@ -9,7 +9,7 @@ use lib.ListN.{length, get_or, drop}
 use lib.Seq.{drop-cons, drop-drop}
 use lib.Dec.{ltb, eqb}
 use borrow.Author.Tests.{lt-ltb, le-ltb, ltb-false, eq-eqb, ne_eqb}
-use Rattle.common.specs.Choice.{if◌then◌else◌}
+use Rattle.common.specs.Choice.{when◌then◌else◌}
 use Rattle.common.specs.Lists.{total}
 use Rattle.common.specs.Answers.{Answer, gives, refused, nowhere, on_given}
 use Rattle.common.proofs.Bools.{clash}
@@ -27,8 +27,8 @@ use Rattle.pool_stream.specs.declared.entry.PoolEntry.TheVariants.{One, Cut, End
 -- the entry at the front, by its four tests
 abbrev By : List ℕ → Bool → Bool → Bool → Bool → Found
 By s a b wide d =
-    if a then ends (length s) else if b then cut
-    else if wide then (if d then cut else one (number_at 4 s 4) (number_at 2 s 2) true 8)
+    when a then ends (length s) else when b then cut
+    else when wide then (when d then cut else one (number_at 4 s 4) (number_at 2 s 2) true 8)
     else one (number_at 2 s 0) (number_at 2 s 2) false 4
 
 module _ (s : List ℕ) where

@@ -8,7 +8,7 @@ use mathlib.Core.List.{List, [], ◌∷◌, ◌++◌, map, append_assoc, append-
 use lib.ListN.{length, take, drop, get_or, length-append, length-drop}
 use lib.Seq.{take-suc, length-take-le}
 use borrow.Author.Tests.{lt-ltb, le-ltb}
-use Rattle.common.specs.Choice.{if◌then◌else◌}
+use Rattle.common.specs.Choice.{when◌then◌else◌}
 use Rattle.common.specs.Lists.{◌over◌, over_at, joined, total}
 use Rattle.common.specs.Answers.{Answer, gives, refused, nowhere, outcome, written_to}
 use Rattle.common.proofs.Parts.{over_next}
@@ -21,7 +21,7 @@ use Rattle.pool_stream.specs.inner.Write.{entries_bytes, stream_by}
 
 -- by whether the 4-byte length follows
 abbrev By : ℕ → ℕ → Bool → List ℕ
-By l c b = bytes_of 2 (short_of l) ++ bytes_of 2 c ++ (if b then bytes_of 4 l else [])
+By l c b = bytes_of 2 (short_of l) ++ bytes_of 2 c ++ (when b then bytes_of 4 l else [])
 
 pub is-narrow : (l c : ℕ) → wide l c ≡ false → entry_bytes l c ≡ bytes_of 2 (short_of l) ++ bytes_of 2 c
 unfolding entry_bytes
@@ -118,13 +118,13 @@ module _ (ls cs d : List ℕ) (n i : ℕ) (hl : n ≤ length ls) (hc : n ≤ len
 -- ---- what a writer answers
 
 pub write_short : (s out : List ℕ) → length out < length s → (refused 7 nowhere, out) ≡ outcome out (written_to out s)
-write_short s out h = sym (ap (λ (b : Bool). outcome out (if b then refused 7 nowhere else gives (length s, s over out))) (lt-ltb (length out) (length s) h))
+write_short s out h = sym (ap (λ (b : Bool). outcome out (when b then refused 7 nowhere else gives (length s, s over out))) (lt-ltb (length out) (length s) h))
 
 pub write_done : (s out : List ℕ) (n : ℕ) (left : List ℕ) → length s ≤ length out → n ≡ length s → left ≡ s over out
     → (gives n, left) ≡ outcome out (written_to out s)
 write_done s out n left h e l =
     ap₂ (λ (i : ℕ) (o : List ℕ). (gives i, o)) e l
-    ∙ sym (ap (λ (b : Bool). outcome out (if b then refused 7 nowhere else gives (length s, s over out))) (le-ltb (length out) (length s) h))
+    ∙ sym (ap (λ (b : Bool). outcome out (when b then refused 7 nowhere else gives (length s, s over out))) (le-ltb (length out) (length s) h))
 
 -- the mark, and the entries after it
 pub marked : (m E out o₁ o₂ : List ℕ) → length m ≡ 4 → 4 ≤ length out → o₁ ≡ over_at 0 m out → o₂ ≡ over_at 4 E o₁ → o₂ ≡ (m ++ E) over out

@@ -1,6 +1,6 @@
 -- A pool stream and its entries, read and written.
 use Rattle.std.specs.Prelude.{ℕ, zero, suc, ◌+◌, Bool, true, false, ◌&&◌, List, [], ◌∷◌, ◌++◌, map, length, drop}
-use Rattle.common.specs.Choice.{if◌then◌else◌, ◌<?◌, ◌≤?◌, ◌=?◌}
+use Rattle.common.specs.Choice.{when◌then◌else◌, ◌<?◌, ◌≤?◌, ◌=?◌}
 use Rattle.common.specs.Lists.{joined}
 use Rattle.common.specs.Answers.{Answer, gives, refused, nowhere, on_given}
 use Rattle.little_endian.specs.Numbers.{number_at, bytes_of}
@@ -19,9 +19,9 @@ abbrev pub entry_in : List ℕ → Found
 entry_in s =
     let size = number_at 2 s 0 in
     let count = number_at 2 s 2 in
-    if length s <? 2 then ends (length s)
-    else if length s <? 4 then cut
-    else if size =? 0 && 0 <? count then (if length s <? 8 then cut else one (number_at 4 s 4) count true 8)
+    when length s <? 2 then ends (length s)
+    else when length s <? 4 then cut
+    else when size =? 0 && 0 <? count then (when length s <? 8 then cut else one (number_at 4 s 4) count true 8)
     else one size count false 4
 
 abbrev pub with_entry : ℕ → ℕ → Answer (List ℕ × List ℕ) → Answer (List ℕ × List ℕ)
@@ -43,18 +43,18 @@ pool_entries_lem s = entries_in (length s) (drop 4 s)
 
 -- "Writing puts the length if at most 65,535, else 0;"
 abbrev pub short_of : ℕ → ℕ
-short_of size = if size ≤? 65535 then size else 0
+short_of size = when size ≤? 65535 then size else 0
 
 -- "then the count; then, if the two bytes were 0 and the count is above 0, the 4-byte length."
 abbrev pub wide : ℕ → ℕ → Bool
 wide size count = short_of size =? 0 && 0 <? count
 
 unfoldable pub entry_bytes : ℕ → ℕ → List ℕ
-entry_bytes size count = bytes_of 2 (short_of size) ++ bytes_of 2 count ++ (if wide size count then bytes_of 4 size else [])
+entry_bytes size count = bytes_of 2 (short_of size) ++ bytes_of 2 count ++ (when wide size count then bytes_of 4 size else [])
 
 -- "Four bytes: bit 31 says long references (3 bytes), the rest is the code page."
 abbrev pub mark_of : Bool → ℕ → ℕ
-mark_of long codepage = codepage + (if long then 2147483648 else 0)
+mark_of long codepage = codepage + (when long then 2147483648 else 0)
 
 -- the mark, "then entries"
 abbrev pub stream_bytes : ℕ → Bool → ℕ → Rooms → List ℕ

@@ -7,7 +7,7 @@ use lib.IntN.{ℤ, pos}
 use lib.Dec.{ltb}
 use lib.ListN.{length}
 use borrow.Author.Tests.{lt-ltb, le-ltb}
-use Rattle.common.specs.Choice.{if◌then◌else◌, ◌=?◌}
+use Rattle.common.specs.Choice.{when◌then◌else◌, ◌=?◌}
 use Rattle.common.specs.Sizes.{max_bytes}
 use Rattle.common.specs.Answers.{Place, nowhere, Answer, gives, refused, on_given, outcome, refusal_of}
 use Rattle.common.specs.Refusals.{number_of, where_of, refused_by}
@@ -35,13 +35,13 @@ use Rattle.pool_values.specs.declared.Shown.TheVariants as shown
 -- ---- 22 and 24, told by a show of the least number
 
 stops : {A B : Type 0} (s t : Bool) (a : A) (b : Answer B) (n : ℕ) (at : Place)
-    → refused n at ≡ refusal_of (if s then refused 22 nowhere else if not t then refused 24 nowhere else gives a) → (if s then refused 22 nowhere else if not t then refused 24 nowhere else b) ≡ refused n at
+    → refused n at ≡ refusal_of (when s then refused 22 nowhere else when not t then refused 24 nowhere else gives a) → (when s then refused 22 nowhere else when not t then refused 24 nowhere else b) ≡ refused n at
 stops true t a b n at e = cc
 stops false false a b n at e = cc
 stops false true a b n at e = clash (cc)
 
 passes : {A B : Type 0} (s t : Bool) (a : A) (b : Answer B)
-    → gives tt ≡ refusal_of (if s then refused 22 nowhere else if not t then refused 24 nowhere else gives a) → (if s then refused 22 nowhere else if not t then refused 24 nowhere else b) ≡ b
+    → gives tt ≡ refusal_of (when s then refused 22 nowhere else when not t then refused 24 nowhere else gives a) → (when s then refused 22 nowhere else when not t then refused 24 nowhere else b) ≡ b
 passes true t a b e = clash (cc)
 passes false false a b e = clash (cc)
 passes false true a b e = refl
@@ -82,17 +82,17 @@ kept p w a (showable.Refused x) e = sym (ap (outcome w) (unsound p w a (gives (p
 
 module _ (v : ValueRef) (p : StringPool) (w : Rooms) where
   abbrev asked : ℤ
-  asked = if ref_kind v =? 2 then numberOfValue v else pos 1
+  asked = when ref_kind v =? 2 then numberOfValue v else pos 1
 
   pub shown_refused : (q : ℤ) (x : Refusal) → q ≡ asked → refused_by x ≡ refusal_of (show_answer p w q) → refused_by x ≡ shown_answer (ref_kind v) (numberOfValue v) p w
   shown_refused q x f e = go (ref_kind v =? 2) refl (rw f at e)
     where
-      go : (b : Bool) → (ref_kind v =? 2) ≡ b → refused_by x ≡ refusal_of (show_answer p w (if b then numberOfValue v else pos 1))
-          → ◌≡◌ {A = Answer (ℕ × ℤ)} (refused_by x) (on_given (if b then show_answer p w (numberOfValue v) else on_sound p w (gives [])) (λ t. gives (ref_kind v, if b then pos 0 else numberOfValue v)))
+      go : (b : Bool) → (ref_kind v =? 2) ≡ b → refused_by x ≡ refusal_of (show_answer p w (when b then numberOfValue v else pos 1))
+          → ◌≡◌ {A = Answer (ℕ × ℤ)} (refused_by x) (on_given (when b then show_answer p w (numberOfValue v) else on_sound p w (gives [])) (λ t. gives (ref_kind v, when b then pos 0 else numberOfValue v)))
       go true g e = sym (after-refused (show_answer p w (numberOfValue v)) _ _ _ (sym e))
       go false g e = sym (ap (λ (y : Answer (List ℕ)). on_given {B = ℕ × ℤ} y (λ t. gives (ref_kind v, numberOfValue v))) (unsound p w _ (gives []) (number_of x) (where_of x) e))
 
-  shown_is : (v : ValueRef) → ◌≡◌ {A = Answer (ℕ × ℤ)} (shown_as (shown.Value (shown_of_lem v))) (gives (ref_kind v, if ref_kind v =? 2 then pos 0 else numberOfValue v))
+  shown_is : (v : ValueRef) → ◌≡◌ {A = Answer (ℕ × ℤ)} (shown_as (shown.Value (shown_of_lem v))) (gives (ref_kind v, when ref_kind v =? 2 then pos 0 else numberOfValue v))
   shown_is ref.Null = refl
   shown_is (ref.Int n) = refl
   shown_is (ref.Str r) = refl
@@ -101,9 +101,9 @@ module _ (v : ValueRef) (p : StringPool) (w : Rooms) where
   pub shown_given : (q : ℤ) → q ≡ asked → gives tt ≡ refusal_of (show_answer p w q) → shown_as (shown.Value (shown_of_lem v)) ≡ shown_answer (ref_kind v) (numberOfValue v) p w
   shown_given q f e = shown_is v ∙ go (ref_kind v =? 2) (rw f at e)
     where
-      go : (b : Bool) → gives tt ≡ refusal_of (show_answer p w (if b then numberOfValue v else pos 1))
-          → ◌≡◌ {A = Answer (ℕ × ℤ)} (gives (ref_kind v, if b then pos 0 else numberOfValue v))
-          (on_given (if b then show_answer p w (numberOfValue v) else on_sound p w (gives [])) (λ t. gives (ref_kind v, if b then pos 0 else numberOfValue v)))
+      go : (b : Bool) → gives tt ≡ refusal_of (show_answer p w (when b then numberOfValue v else pos 1))
+          → ◌≡◌ {A = Answer (ℕ × ℤ)} (gives (ref_kind v, when b then pos 0 else numberOfValue v))
+          (on_given (when b then show_answer p w (numberOfValue v) else on_sound p w (gives [])) (λ t. gives (ref_kind v, when b then pos 0 else numberOfValue v)))
       go true e = sym (passed (show_answer p w (numberOfValue v)) (gives (ref_kind v, pos 0)) e)
       go false e = sym (ap (λ (y : Answer (List ℕ)). on_given {B = ℕ × ℤ} y (λ t. gives (ref_kind v, numberOfValue v))) (is-sound p w _ (gives []) e))
 
@@ -113,7 +113,7 @@ module _ (v : ValueRef) (p : StringPool) (w : Rooms) where
   pub text-none : (ref_kind v =? 2) ≡ false → [] ≡ or_empty (text_answer (ref_kind v) (numberOfValue v) p w)
   text-none k = rw k (go (ltb 268435455 (length w.text)) (sound p w))
     where
-      go : (s t : Bool) → [] ≡ or_empty (if s then refused 22 nowhere else if not t then refused 24 nowhere else gives [])
+      go : (s t : Bool) → [] ≡ or_empty (when s then refused 22 nowhere else when not t then refused 24 nowhere else gives [])
       go true t = refl
       go false true = refl
       go false false = refl

@@ -1,6 +1,6 @@
 -- Values and the string pool: create, remove and to_value, thin over the pool's calls, with their refusals; a text stands beside the value.
 use Rattle.std.specs.Prelude.{ℕ, List, [], ℤ, pos, length}
-use Rattle.common.specs.Choice.{if◌then◌else◌, ◌<?◌, ◌=?◌}
+use Rattle.common.specs.Choice.{when◌then◌else◌, ◌<?◌, ◌=?◌}
 use Rattle.common.specs.Sizes.{max_bytes}
 use Rattle.common.specs.Answers.{Answer, gives, refused, nowhere, on_given, outcome}
 use Rattle.common.specs.Refusals.{refused_by}
@@ -17,12 +17,12 @@ use Rattle.pool_values.specs.declared.Shown.TheVariants as shown
 
 -- a value that is no text leaves the pool as it is, after 22 for the text and for the room, and 24
 abbrev pub plain_answer : ℕ → ℤ → List ℕ → StringPool → Rooms → Answer (((ℕ × ℤ) × StringPool) × Rooms)
-plain_answer kind n new p w = if max_bytes <? length new then refused 22 nowhere else on_sound p w (gives (((kind, n), p), w))
+plain_answer kind n new p w = when max_bytes <? length new then refused 22 nowhere else on_sound p w (gives (((kind, n), p), w))
 
 -- a text is taken, by that choice
 abbrev pub create_answer : Chooser → ℕ → ℤ → List ℕ → StringPool → Rooms → Answer (((ℕ × ℤ) × StringPool) × Rooms)
 create_answer choose kind n new p w =
-    if kind =? 2 then on_given (take_answer choose p w new) (λ x. gives (((2, x.0.0), x.0.1), x.1))
+    when kind =? 2 then on_given (take_answer choose p w new) (λ x. gives (((2, x.0.0), x.0.1), x.1))
     else plain_answer kind n new p w
 
 abbrev pub create_outcome : Chooser → ℕ → ℤ → List ℕ → StringPool → Rooms → Answer ((ℕ × ℤ) × StringPool) × Rooms
@@ -30,18 +30,18 @@ create_outcome choose kind n new p w = outcome w (create_answer choose kind n ne
 
 -- a reference is dropped
 abbrev pub remove_answer : ℕ → ℤ → StringPool → Rooms → Answer (StringPool × Rooms)
-remove_answer kind n p w = if kind =? 2 then drop_answer p w n else on_sound p w (gives (p, w))
+remove_answer kind n p w = when kind =? 2 then drop_answer p w n else on_sound p w (gives (p, w))
 
 abbrev pub remove_outcome : ℕ → ℤ → StringPool → Rooms → Answer StringPool × Rooms
 remove_outcome kind n p w = outcome w (remove_answer kind n p w)
 
 -- the text of a reference, none of any other value
 abbrev pub text_answer : ℕ → ℤ → StringPool → Rooms → Answer (List ℕ)
-text_answer kind n p w = if kind =? 2 then show_answer p w n else on_sound p w (gives [])
+text_answer kind n p w = when kind =? 2 then show_answer p w n else on_sound p w (gives [])
 
 -- the value, by its kind and number; a text's number is 0, since the text stands beside it
 abbrev pub shown_answer : ℕ → ℤ → StringPool → Rooms → Answer (ℕ × ℤ)
-shown_answer kind n p w = on_given (text_answer kind n p w) (λ t. gives (kind, if kind =? 2 then pos 0 else n))
+shown_answer kind n p w = on_given (text_answer kind n p w) (λ t. gives (kind, when kind =? 2 then pos 0 else n))
 
 abbrev pub created_as : Created → Answer ((ℕ × ℤ) × StringPool)
 created_as (created.Value v p) = gives ((ref_kind v, ref_number v), p)

@@ -8,7 +8,7 @@ ghost use Rattle.stringpool.specs.Show.{or_empty};
 ghost use Rattle.cell.specs.Kinds.{ref_kind, ref_number, value_kind, value_number};
 ghost use Rattle.pool_values.specs.Pooled.{created_as, plain_answer, create_outcome, remove_outcome, shown_as, shown_answer, text_answer};
 ghost use Rattle.pool_values.specs.inner.Pooled.{created_of_lem, plain_of, kept_by_lem, shown_of_lem};
-ghost use Rattle.common.specs.Choice.{if◌then◌else◌, ◌=?◌};
+ghost use Rattle.common.specs.Choice.{when◌then◌else◌, ◌=?◌};
 ghost use Rattle.common.specs.Answers.{outcome};
 
 pub use cell::Value;
@@ -174,7 +174,7 @@ fn kept_by(pool: StringPool, sound: Showable) -> Pooled
 
 // The number that is looked up: a reference's own, else the least, which every sound pool shows.
 fn asked_for(value: ValueRef) -> i32
-    ensures { result ≡ (if ref_kind value =? 2 then ref_number value else pos 1) }
+    ensures { result ≡ (when ref_kind value =? 2 then ref_number value else pos 1) }
 {
     if is_reference(value) {
         return value.number();

@@ -8,7 +8,7 @@ pub mod lend;
 
 ghost use Rattle.std.specs.Prelude.{◌≡◌, IfOk, OnOk, codes};
 ghost use Rattle.std.specs.Io.KnownBytes.{Appends};
-ghost use Rattle.common.specs.Choice.{if◌then◌else◌, ◌=?◌};
+ghost use Rattle.common.specs.Choice.{when◌then◌else◌, ◌=?◌};
 ghost use Rattle.commands.specs.Words.{is_none, count_at_lem};
 
 use commands::lists::is_none;
@@ -59,7 +59,7 @@ impl Desk {
 
     // The places of an output that needs so many.
     pub fn output(self, enough: usize) -> usize
-        ensures { result ≡ (if self.places =? 4294967295 then enough else self.places) }
+        ensures { result ≡ (when self.places =? 4294967295 then enough else self.places) }
     {
         if self.places == ALL {
             return enough;
@@ -85,7 +85,7 @@ impl Desk {
 
 // `out N`, `out -`
 pub fn out<W: Write>(w: &mut W, s: &[u8], at: usize, mut desk: Desk) -> io::Result<Desk>
-    ensures answers { IfOk result (λ d. (d.places ≡ (if is_none s.now at then 4294967295 else count_at_lem s.now at)) × (d.pool ≡ desk.pool) × (d.lengths ≡ desk.lengths) × (d.counts ≡ desk.counts) × (d.text ≡ desk.text) × (d.left ≡ desk.left) × (d.width ≡ desk.width)) }
+    ensures answers { IfOk result (λ d. (d.places ≡ (when is_none s.now at then 4294967295 else count_at_lem s.now at)) × (d.pool ≡ desk.pool) × (d.lengths ≡ desk.lengths) × (d.counts ≡ desk.counts) × (d.text ≡ desk.text) × (d.left ≡ desk.left) × (d.width ≡ desk.width)) }
     ensures written { OnOk result (Appends (W.contents w.old) (W.contents w.new) (codes "ok")) }
 {
     shown::say(w, b"ok")?;

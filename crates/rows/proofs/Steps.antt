@@ -11,7 +11,7 @@ use lib.IntN.{ℤ, pos}
 use lib.ListN.{length, get_or, drop, get_or-append}
 use borrow.Author.Tests.{lt-ltb, le-ltb, ltb-true, ltb-false, ne_eqb}
 use Rattle.common.specs.Lists.{◌over◌}
-use Rattle.common.specs.Choice.{if◌then◌else◌}
+use Rattle.common.specs.Choice.{when◌then◌else◌}
 use Rattle.common.specs.Answers.{Place, nowhere, column, Answer, gives, refused, on_given}
 use Rattle.common.proofs.Bools.{clash}
 use Rattle.common.proofs.Answers.{same_refusal}
@@ -77,7 +77,7 @@ sound-19 c Int16 x n p e = cc
 sound-19 c Int32 x n p e = cc
 sound-19 c (Str max) x n p e = go (ltb 255 max) e
   where
-    go : (b : Bool) → on_given (if b then refused 19 (column c) else gives (Str max)) (λ u. gives x) ≡ refused n p → n ≡ 19
+    go : (b : Bool) → on_given (when b then refused 19 (column c) else gives (Str max)) (λ u. gives x) ≡ refused n p → n ≡ 19
     go true f = cc
     go false f = cc
 sound-19 c Binary x n p e = cc
@@ -98,7 +98,7 @@ never_15 : (t : Table) (s : List ℕ) (n : ℕ) (p : Place) → num_rows_answer 
 never_15 t s n p e h = go (ltb 268435455 (length s)) (ltb 64 t.count) (each_at sound_column 0 (columns_of t)) refl (ltb 65536 (rows_of t s)) e
   where
     go : (a b : Bool) (x : Answer (List Column)) → each_at sound_column 0 (columns_of t) ≡ x → (d : Bool)
-        → (if a then refused 22 nowhere else on_given (if b then refused 20 nowhere else x) (λ ys. if d then refused 14 nowhere else gives (rows_of t s))) ≡ refused n p → ⊥
+        → (when a then refused 22 nowhere else on_given (when b then refused 20 nowhere else x) (λ ys. when d then refused 14 nowhere else gives (rows_of t s))) ≡ refused n p → ⊥
     go true b x q d f = let i : 22 ≡ n = cc in omega arith
     go false true x q d f = let i : 20 ≡ n = cc in omega arith
     go false false (refused m k) q d f = let i = each-19 0 (columns_of t) n p (q ∙ same_refusal f) in omega arith
@@ -112,17 +112,17 @@ module _ (t : Table) (s : List ℕ) (at : ℕ) (p : 0 < t.count) where
   abbrev cell_of : ℕ → ℕ × ℤ
   cell_of rows = cell_at (types_of t) t.long_string_refs rows s row (at % t.count)
 
-  read_is : (rows : ℕ) → num_rows_answer t s ≡ gives rows → read_cell_answer t s row (at % t.count) ≡ (if ltb row rows then gives (cell_of rows) else refused 15 nowhere)
+  read_is : (rows : ℕ) → num_rows_answer t s ≡ gives rows → read_cell_answer t s row (at % t.count) ≡ (when ltb row rows then gives (cell_of rows) else refused 15 nowhere)
   read_is rows e = rw (e, lt-ltb (at % t.count) t.count (mod-lt at p)) (go (ltb row rows))
     where
-      go : (b : Bool) → on_given (if b && true then gives tt else refused 15 nowhere) (λ (x : Unit {0}). gives (cell_of rows)) ≡ (if b then gives (cell_of rows) else refused 15 nowhere)
+      go : (b : Bool) → on_given (when b && true then gives tt else refused 15 nowhere) (λ (x : Unit {0}). gives (cell_of rows)) ≡ (when b then gives (cell_of rows) else refused 15 nowhere)
       go true = refl
       go false = refl
 
   pub read_some : (v : ℕ × ℤ) → gives v ≡ read_cell_answer t s row (at % t.count) → (next_outcome t s at ≡ (gives (another v), at + 1)) × (at < 4194304)
   read_some v e = go (num_rows_answer t s) refl
     where
-      here : (rows : ℕ) → num_rows_answer t s ≡ gives rows → (b : Bool) → ltb row rows ≡ b → gives v ≡ (if b then gives (cell_of rows) else refused 15 nowhere) → (next_outcome t s at ≡ (gives (another v), at + 1)) × (at < 4194304)
+      here : (rows : ℕ) → num_rows_answer t s ≡ gives rows → (b : Bool) → ltb row rows ≡ b → gives v ≡ (when b then gives (cell_of rows) else refused 15 nowhere) → (next_outcome t s at ≡ (gives (another v), at + 1)) × (at < 4194304)
       here rows q true h f =
           let same : cell_of rows ≡ v = cc in
           let i = step_cell t s at rows q p (ltb-true row rows h) in
@@ -137,7 +137,7 @@ module _ (t : Table) (s : List ℕ) (at : ℕ) (p : 0 < t.count) where
   pub read_none : (n : ℕ) (k : Place) → refused n k ≡ read_cell_answer t s row (at % t.count) → stopped_at n k at ≡ next_outcome t s at
   read_none n k e = go (num_rows_answer t s) refl
     where
-      past : (rows : ℕ) → num_rows_answer t s ≡ gives rows → (b : Bool) → ltb row rows ≡ b → refused n k ≡ (if b then gives (cell_of rows) else refused 15 nowhere) → stopped_at n k at ≡ next_outcome t s at
+      past : (rows : ℕ) → num_rows_answer t s ≡ gives rows → (b : Bool) → ltb row rows ≡ b → refused n k ≡ (when b then gives (cell_of rows) else refused 15 nowhere) → stopped_at n k at ≡ next_outcome t s at
       past rows q true h f = cc
       past rows q false h f =
           let i : n ≡ 15 = cc in

@@ -1,7 +1,7 @@
 -- Document 01: "A row reader keeps the lent table stream and its place and answers one cell after another, row by row, as `Rows` does; after
 -- the last it answers that there is none, however often asked."
 use Rattle.std.specs.Prelude.{ℕ, zero, suc, ◌+◌, List, [], ◌∷◌, ℤ, pos, length, get_or}
-use Rattle.common.specs.Choice.{if◌then◌else◌, ◌<?◌}
+use Rattle.common.specs.Choice.{when◌then◌else◌, ◌<?◌}
 use Rattle.common.specs.Answers.{Answer, gives, refused, on_given}
 use Rattle.common.specs.Refusals.{refused_by}
 use Rattle.cell.specs.Kinds.{cell_as}
@@ -23,7 +23,7 @@ cells_of t s rows = row_by_row (cell_at (types_of t) t.long_string_refs rows s) 
 
 -- the at-th of them; none past the end
 abbrev pub at_th : List (ℕ × ℤ) → ℕ → Next
-at_th cells at = if at <? length cells then another (get_or cells at (0, pos 0)) else none
+at_th cells at = when at <? length cells then another (get_or cells at (0, pos 0)) else none
 
 -- 22, 20, 19, 14, as every call on a table; then the cell at the place
 abbrev pub next_answer : Table → List ℕ → ℕ → Answer Next

@@ -10,7 +10,7 @@ use lib.Seq.{drop-cons}
 use borrow.Author.Tests.{lt-ltb, le-ltb}
 use Rattle.streamname.specs.Letters.{from_b64_lem}
 use Rattle.common.specs.Lists.{◌over◌}
-use Rattle.common.specs.Choice.{if◌then◌else◌}
+use Rattle.common.specs.Choice.{when◌then◌else◌}
 use Rattle.common.specs.Sizes.{max_name, max_stored}
 use Rattle.common.proofs.Bools.{clash}
 use Rattle.common.specs.Answers.{gives, refused, nowhere}
@@ -49,7 +49,7 @@ undone-short : (v : ℕ) → length (undone v) ≤ 2
 unfolding undone
 undone-short v = go (between 0x3800 0x47FF v) (between 0x4800 0x483F v)
   where
-    go : (p q : Bool) → length (if p then from_b64_lem ((v - 0x3800) % 64) ∷ from_b64_lem ((v - 0x3800) / 64) ∷ [] else if q then from_b64_lem (v - 0x4800) ∷ [] else v ∷ []) ≤ 2
+    go : (p q : Bool) → length (when p then from_b64_lem ((v - 0x3800) % 64) ∷ from_b64_lem ((v - 0x3800) / 64) ∷ [] else when q then from_b64_lem (v - 0x4800) ∷ [] else v ∷ []) ≤ 2
     go true q = omega arith
     go false true = omega arith
     go false false = omega arith

@@ -12,7 +12,7 @@ use native.Mathlib.Decide.{dec_lt}
 use lib.Dec.{T, leb, ltb, eqb, ltb→lt, eqb→eq}
 use lib.ListN.{length, get_or, get_or-eq_default}
 use borrow.Author.Tests.{le-leb, lt-leb, ne_eqb, leb-true}
-use Rattle.common.specs.Choice.{if◌then◌else◌, ◌<?◌, ◌=?◌}
+use Rattle.common.specs.Choice.{when◌then◌else◌, ◌<?◌, ◌=?◌}
 use Rattle.common.proofs.Below.{both, all_below, each}
 use Rattle.common.proofs.Lists.{map-from}
 use Rattle.streamname.specs.Letters.{letters, place_in, to_b64_lem, from_b64_lem}
@@ -57,8 +57,8 @@ past u h = sym (absent letters 0x7B u all_under h)
 
 abbrev pub spelled : ℕ → ℕ
 spelled n =
-    if 35 <? n then (if n <? 62 then n - 36 + 0x61 else if n =? 62 then 0x2E else 0x5F)
-    else if n <? 10 then n + 0x30
+    when 35 <? n then (when n <? 62 then n - 36 + 0x61 else when n =? 62 then 0x2E else 0x5F)
+    else when n <? 10 then n + 0x30
     else n - 10 + 0x41
 
 abbrev spelled_right : ℕ → Bool

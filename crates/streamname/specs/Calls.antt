@@ -1,6 +1,6 @@
 -- What `encode`, `decode` and `is_valid` answer, and what their output holds afterwards.
 use Rattle.std.specs.Prelude.{ℕ, Bool, true, false, ◌||◌, List, length}
-use Rattle.common.specs.Choice.{if◌then◌else◌, ◌<?◌}
+use Rattle.common.specs.Choice.{when◌then◌else◌, ◌<?◌}
 use Rattle.common.specs.Sizes.{max_name, max_stored}
 use Rattle.common.specs.Answers.{Answer, gives, refused, nowhere, on_given, outcome, written_to}
 use Rattle.common.specs.Refusals.{refused_by}
@@ -15,7 +15,7 @@ use Rattle.streamname.specs.declared.Validity.TheVariants as judge
 -- "22 first"; "Names and pool writing: 7"
 abbrev pub encode_answer : List ℕ → Bool → List ℕ → Answer (ℕ × List ℕ)
 encode_answer name table out =
-    if max_name <? length name then refused 22 nowhere
+    when max_name <? length name then refused 22 nowhere
     else written_to out (encoded_name name table)
 
 abbrev pub encode_outcome : List ℕ → Bool → List ℕ → Answer ℕ × List ℕ
@@ -25,14 +25,14 @@ encode_outcome name table out = outcome out (encode_answer name table out)
 abbrev pub decode_answer : List ℕ → List ℕ → Answer ((ℕ × Bool) × List ℕ)
 decode_answer stored out =
     let result = decoded_name stored in
-    if max_stored <? length stored || max_name <? length result then refused 22 nowhere
+    when max_stored <? length stored || max_name <? length result then refused 22 nowhere
     else on_given (written_to out result) (λ x. gives ((x.0, is_table stored), x.1))
 
 abbrev pub decode_outcome : List ℕ → List ℕ → Answer (ℕ × Bool) × List ℕ
 decode_outcome stored out = outcome out (decode_answer stored out)
 
 abbrev pub valid_answer : List ℕ → Bool → Answer Bool
-valid_answer name table = if max_name <? length name then refused 22 nowhere else gives (valid name table)
+valid_answer name table = when max_name <? length name then refused 22 nowhere else gives (valid name table)
 
 -- the calls' answers in document 01's terms
 abbrev pub encoded_as : Encoded → Answer ℕ

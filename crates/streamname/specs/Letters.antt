@@ -1,7 +1,7 @@
 -- Document 01, "Stream names": the 64 letters and their numbers.
 use Rattle.std.specs.Prelude.{ℕ, suc, List, [], ◌∷◌, ◌++◌, get_or}
 use Rattle.std.proofs.Math.Option.{Option, none, some}
-use Rattle.common.specs.Choice.{if◌then◌else◌, ◌=?◌}
+use Rattle.common.specs.Choice.{when◌then◌else◌, ◌=?◌}
 use Rattle.common.specs.Lists.{from}
 
 -- "Digits, A-Z, a-z, `.`, `_` are 0 to 63."
@@ -15,7 +15,7 @@ next (some k) = some (suc k)
 -- the first place of a unit in a list, or none
 abbrev pub place_in : List ℕ → ℕ → Option ℕ
 place_in [] u = none
-place_in (x ∷ xs) u = if u =? x then some 0 else next (place_in xs u)
+place_in (x ∷ xs) u = when u =? x then some 0 else next (place_in xs u)
 
 -- the number of a letter, or none where the unit is no letter
 abbrev pub to_b64_lem : ℕ → Option ℕ

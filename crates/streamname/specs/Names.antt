@@ -1,7 +1,7 @@
 -- Document 01, "Stream names, in UTF-16 units": the stored form of a name, and back.
 use Rattle.std.specs.Prelude.{ℕ, ◌+◌, ◌*◌, ◌-◌, ◌/◌, ◌%◌, Bool, not, ◌&&◌, ◌||◌, List, [], ◌∷◌, map, length, drop, get_or}
 use Rattle.std.proofs.Math.Option.{Option, none, some}
-use Rattle.common.specs.Choice.{if◌then◌else◌, ◌≤?◌, ◌=?◌}
+use Rattle.common.specs.Choice.{when◌then◌else◌, ◌≤?◌, ◌=?◌}
 use Rattle.common.specs.Lists.{joined, every}
 use Rattle.streamname.specs.Letters.{to_b64_lem, from_b64_lem}
 
@@ -32,14 +32,14 @@ encoded (u ∷ v ∷ rest) =
 
 -- "A table name gets 0x4840 in front."
 abbrev pub encoded_name : List ℕ → Bool → List ℕ
-encoded_name name table = if table then 0x4840 ∷ encoded name else encoded name
+encoded_name name table = when table then 0x4840 ∷ encoded name else encoded name
 
 -- "Decoding strips one leading 0x4840"
 abbrev pub is_table : List ℕ → Bool
 is_table stored = get_or stored 0 0 =? 0x4840
 
 abbrev pub stripped : List ℕ → List ℕ
-stripped stored = if is_table stored then drop 1 stored else stored
+stripped stored = when is_table stored then drop 1 stored else stored
 
 -- "and undoes 0x3800-0x47FF and 0x4800-0x483F"
 abbrev pub between : ℕ → ℕ → ℕ → Bool
@@ -47,8 +47,8 @@ between low high u = low ≤? u && u ≤? high
 
 unfoldable pub undone : ℕ → List ℕ
 undone v =
-    if between 0x3800 0x47FF v then from_b64_lem ((v - 0x3800) % 64) ∷ from_b64_lem ((v - 0x3800) / 64) ∷ []
-    else if between 0x4800 0x483F v then from_b64_lem (v - 0x4800) ∷ []
+    when between 0x3800 0x47FF v then from_b64_lem ((v - 0x3800) % 64) ∷ from_b64_lem ((v - 0x3800) / 64) ∷ []
+    else when between 0x4800 0x483F v then from_b64_lem (v - 0x4800) ∷ []
     else v ∷ []
 
 unfoldable pub decoded : List ℕ → List ℕ

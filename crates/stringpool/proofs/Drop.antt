@@ -9,7 +9,7 @@ use lib.Seq.{get_or-take}
 use lib.IntN.{ℤ}
 use lib.Dec.{leb}
 use borrow.Author.Tests.{le-leb, lt-leb}
-use Rattle.common.specs.Choice.{if◌then◌else◌}
+use Rattle.common.specs.Choice.{when◌then◌else◌}
 use Rattle.common.specs.Lists.{total}
 use Rattle.common.specs.Answers.{Answer, gives, on_given, outcome}
 use Rattle.common.specs.Refusals.{refused_by}
@@ -76,11 +76,11 @@ module _ (p : StringPool) (w : Rooms) (fit : Fit p.num_strings w) (k : ℕ) wher
     counted = get_or-take n w.counts k 0 h
 
     -- the entry becomes e
-    done : (e : Entry) (b : Bool) → leb e₀.count 1 ≡ b → (if b then entry [] 0 else entry e₀.text (e₀.count - 1)) ≡ e
+    done : (e : Entry) (b : Bool) → leb e₀.count 1 ≡ b → (when b then entry [] 0 else entry e₀.text (e₀.count - 1)) ≡ e
         → (left : Rooms) → put_back p w (set es k e) ≡ left → (gives p, left) ≡ outcome w (drop_at_lem p w k)
     done e b t made left d =
         ap (λ (y : Rooms). (gives p, y)) (sym d)
-        ∙ sym (ap (λ (x : Entry). (gives p, put_back p w (set es k x))) (ap (λ (b : Bool). if b then entry [] 0 else entry e₀.text (e₀.count - 1)) t ∙ made))
+        ∙ sym (ap (λ (x : Entry). (gives p, put_back p w (set es k x))) (ap (λ (b : Bool). when b then entry [] 0 else entry e₀.text (e₀.count - 1)) t ∙ made))
         ∙ sym (ap (outcome w) (by_fits f))
 
     pub drop_more : n ≤ 16777215 → 1 < c → (less : ℕ) → less ≡ c - 1 → DropsAt p w k (Count k less)

@@ -7,7 +7,7 @@ use mathlib.Core.List.{List}
 use lib.ListN.{length}
 use lib.IntN.{ℤ}
 use borrow.Author.Tests.{le-leb, lt-leb, lt-ltb}
-use Rattle.common.specs.Choice.{if◌then◌else◌, ◌≤?◌}
+use Rattle.common.specs.Choice.{when◌then◌else◌, ◌≤?◌}
 use Rattle.common.specs.Answers.{Answer, gives, refused, nowhere, on_given}
 use Rattle.order.specs.Order.{text_fits}
 use Rattle.pool_entries.specs.Sound.{sound_rooms}
@@ -25,7 +25,7 @@ By p w t k new full last =
     let after = taken_at_lem t k es in
     let fits = text_fits (length (texts after)) (length w.text) in
     on_given
-    (if new then (if full then refused 11 nowhere else if last then refused 12 nowhere else if entry_room_lem w ≤? length es then refused 4 nowhere else fits) else fits)
+    (when new then (when full then refused 11 nowhere else when last then refused 12 nowhere else when entry_room_lem w ≤? length es then refused 4 nowhere else fits) else fits)
     (λ _. gives ((reference_to k, counting p (length after)), put_back p w after))
 
 pub drop-order : DropOrder

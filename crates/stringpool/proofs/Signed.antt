@@ -6,7 +6,7 @@ use lib.IntN.{ℤ, pos, negsuc, nat_abs}
 use lib.Dec.{T, ltb}
 use lib.Signed.{non_neg}
 use borrow.Author.Tests.{ltb-false}
-use Rattle.common.specs.Choice.{if◌then◌else◌}
+use Rattle.common.specs.Choice.{when◌then◌else◌}
 use Rattle.common.specs.Answers.{Answer, gives, refused, nowhere, on_given}
 use Rattle.common.proofs.Outcomes.{refused-gives}
 use Rattle.common.specs.Refs.{reference}
@@ -22,7 +22,7 @@ pub within : (z : ℤ) {x : ℤ} → gives x ≡ reference nowhere z → Within 
 within (negsuc n) e = absurd (refused-gives (sym e))
 within (pos n) {x} e = go (ltb n 1) (ltb 16777215 n) refl refl e
   where
-    go : (a b : Bool) → ltb n 1 ≡ a → ltb 16777215 n ≡ b → gives x ≡ (if a || b then refused 8 nowhere else gives (pos n)) → Within (pos n)
+    go : (a b : Bool) → ltb n 1 ≡ a → ltb 16777215 n ≡ b → gives x ≡ (when a || b then refused 8 nowhere else gives (pos n)) → Within (pos n)
     go true b f g h = absurd (refused-gives (sym h))
     go false true f g h = absurd (refused-gives (sym h))
     go false false f g h = record { sign = tt; least = ltb-false n 1 f; most = ltb-false 16777215 n g }
@@ -32,7 +32,7 @@ made_same : (z : ℤ) {x : ℤ} → gives x ≡ reference nowhere z → x ≡ z
 made_same (negsuc n) e = absurd (refused-gives (sym e))
 made_same (pos n) {x} e = go (ltb n 1) (ltb 16777215 n) e
   where
-    go : (a b : Bool) → gives x ≡ (if a || b then refused 8 nowhere else gives (pos n)) → x ≡ pos n
+    go : (a b : Bool) → gives x ≡ (when a || b then refused 8 nowhere else gives (pos n)) → x ≡ pos n
     go true b h = absurd (refused-gives (sym h))
     go false true h = absurd (refused-gives (sym h))
     go false false h = cc

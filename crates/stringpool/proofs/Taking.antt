@@ -8,7 +8,7 @@ use lib.ListN.{length, take, get_or, set, length-append, length-set}
 use lib.IntN.{ℤ, pos}
 use lib.Dec.{ltb, leb}
 use borrow.Author.Tests.{eq-eqb, ne_eqb, lt-ltb, le-ltb, le-leb, lt-leb, ltb-true, ltb-false, eqb-true}
-use Rattle.common.specs.Choice.{if◌then◌else◌, ◌<?◌, ◌=?◌}
+use Rattle.common.specs.Choice.{when◌then◌else◌, ◌<?◌, ◌=?◌}
 use Rattle.common.specs.Lists.{total}
 use Rattle.common.specs.Answers.{Answer, gives, refused, nowhere, on_given, outcome}
 use Rattle.common.specs.Refusals.{refused_by}
@@ -46,7 +46,7 @@ module _ (p : StringPool) (w : Rooms) (fit : Fit p.num_strings w) (t : List ℕ)
   -- the public definition, by whether an entry is new, how many there are, what they become and the place
   abbrev TakeBy : Bool → ℕ → List Entry → ℕ → Answer ((ℤ × StringPool) × Rooms)
   TakeBy new m after k =
-      on_given (if new then add_fits_lem p.long_string_refs m (entry_room_lem w) (length (texts after)) (length w.text) else text_fits (length (texts after)) (length w.text))
+      on_given (when new then add_fits_lem p.long_string_refs m (entry_room_lem w) (length (texts after)) (length w.text) else text_fits (length (texts after)) (length w.text))
       (λ _. gives ((pos (k + 1), counting p (length after)), put_back p w after))
 
   known : length es ≡ n
@@ -55,13 +55,13 @@ module _ (p : StringPool) (w : Rooms) (fit : Fit p.num_strings w) (t : List ℕ)
   module _ (k : ℕ) (hk : k < n) where
     -- at an entry that is there and becomes e, where the texts exceed the room or not
     abbrev AtEntry : Entry → Bool → Answer ((ℤ × StringPool) × Rooms)
-    AtEntry e b = on_given {A = Unit {0}} (if b then refused 6 nowhere else gives tt) (λ _. gives ((pos (k + 1), p), put_back p w (set es k e)))
+    AtEntry e b = on_given {A = Unit {0}} (when b then refused 6 nowhere else gives tt) (λ _. gives ((pos (k + 1), p), put_back p w (set es k e)))
 
     at_entry : (e : Entry) → increased t (get_or es k none) ≡ e → take_at p w t k ≡ AtEntry e (ltb (length w.text) (length (texts (set es k e))))
     at_entry e f =
         let there : ltb k (length es) ≡ true = lt-ltb k (length es) (omega (arith, known)) in
         let old : leb (length es) k ≡ false = lt-leb (length es) k (omega (arith, known)) in
-        let made : taken_at_lem t k es ≡ set es k e = ap₂ (λ (b : Bool) (x : Entry). if b then set es k x else es ++ (entry t 1 ∷ [])) there f in
+        let made : taken_at_lem t k es ≡ set es k e = ap₂ (λ (b : Bool) (x : Entry). when b then set es k x else es ++ (entry t 1 ∷ [])) there f in
         ap₂ (λ (b : Bool) (x : List Entry). TakeBy b (length es) x k) old made
         ∙ ap (λ (i : ℕ). on_given (text_fits (length (texts (set es k e))) (length w.text)) (λ _. gives ((pos (k + 1), counting p i), put_back p w (set es k e))))
         (length-set es k e ∙ known)
@@ -75,12 +75,12 @@ module _ (p : StringPool) (w : Rooms) (fit : Fit p.num_strings w) (t : List ℕ)
 
     counted-free : get_or w.counts k 0 ≡ 0 → increased t (get_or es k none) ≡ entry t 1
     counted-free z =
-        ap (λ (b : Bool). if b then entry t 1 else entry (get_or es k none).text ((get_or es k none).count + 1))
+        ap (λ (b : Bool). when b then entry t 1 else entry (get_or es k none).text ((get_or es k none).count + 1))
         (eq-eqb (get_or es k none).count 0 (count_at n w fit k hk ∙ z))
 
     -- no entry is added
     same_pool : {left : Rooms} → ◌≡◌ {A = Answer (ℤ × StringPool) × Rooms} (gives (pos (k + 1), holding_at p k), left) (gives (pos (k + 1), p), left)
-    same_pool {left} = ap (λ (b : Bool). (gives (pos (k + 1), if b then p else counting p (k + 1)), left)) (lt-ltb k n hk)
+    same_pool {left} = ap (λ (b : Bool). (gives (pos (k + 1), when b then p else counting p (k + 1)), left)) (lt-ltb k n hk)
 
     -- an equal entry counts up
     pub equal-done : n ≤ 16777215 → 0 < get_or w.counts k 0 → (more : ℕ) → more ≡ get_or w.counts k 0 + 1 → At p w t k (Count k more)
@@ -88,7 +88,7 @@ module _ (p : StringPool) (w : Rooms) (fit : Fit p.num_strings w) (t : List ℕ)
         let c : ℕ = (get_or es k none).count in
         let e : Entry = entry (get_or es k none).text (c + 1) in
         let f : increased t (get_or es k none) ≡ e =
-        ap (λ (b : Bool). if b then entry t 1 else e) (ne_eqb c 0 (λ i. omega (arith, z, i, count_at n w fit k hk))) in
+        ap (λ (b : Bool). when b then entry t 1 else e) (ne_eqb c 0 (λ i. omega (arith, z, i, count_at n w fit k hk))) in
         rw up
         (record {
           is = done_at e f (omega (arith, fit.text, length-same n w fit k hk (c + 1))) _
@@ -125,7 +125,7 @@ module _ (p : StringPool) (w : Rooms) (fit : Fit p.num_strings w) (t : List ℕ)
       let new : leb (length es) n ≡ true = le-leb (length es) n (omega (arith, known)) in
       let beyond : ltb n (length es) ≡ false = le-ltb n (length es) (omega (arith, known)) in
       let made : taken_at_lem t n es ≡ es ++ (entry t 1 ∷ []) =
-      ap (λ (b : Bool). if b then set es n (increased t (get_or es n none)) else es ++ (entry t 1 ∷ [])) beyond in
+      ap (λ (b : Bool). when b then set es n (increased t (get_or es n none)) else es ++ (entry t 1 ∷ [])) beyond in
       ap₂ (λ (b : Bool) (x : List Entry). TakeBy b (length es) x n) new made
       ∙ ap₂ (λ (m i : ℕ). on_given (add_fits_lem p.long_string_refs m (entry_room_lem w) i (length w.text)) (λ _. Grown)) known (length-texts_added n w fit (entry t 1))
       ∙ ap (λ (x : Answer (Unit {0})). on_given x (λ _. Grown)) (sym e)
@@ -139,7 +139,7 @@ module _ (p : StringPool) (w : Rooms) (fit : Fit p.num_strings w) (t : List ℕ)
       let grown : n + 1 ≡ length (es ++ (entry t 1 ∷ [])) = sym (length-append es (entry t 1 ∷ []) ∙ ap (λ (i : ℕ). i + 1) known) in
       record {
         is =
-            ap (λ (b : Bool). (gives (pos (n + 1), if b then p else counting p (n + 1)), carried (Put n (total (take n w.lengths)) 0 (total (take n w.lengths)) 1) w t)) (le-ltb n n (omega arith))
+            ap (λ (b : Bool). (gives (pos (n + 1), when b then p else counting p (n + 1)), carried (Put n (total (take n w.lengths)) 0 (total (take n w.lengths)) 1) w t)) (le-ltb n n (omega arith))
             ∙ ap (λ (y : Rooms). (gives (pos (n + 1), counting p (n + 1)), y)) (sym (put_added p w fit (entry t 1) (omega (arith, f.1)) (omega (arith, f.1))))
             ∙ ap (λ (i : ℕ). (gives (pos (n + 1), counting p i), put_back p w (es ++ (entry t 1 ∷ [])))) grown
             ∙ sym (ap (outcome w) (adding (gives tt) e));
@@ -201,7 +201,7 @@ module _ (choose : Chooser) (p : StringPool) (w : Rooms) (t : List ℕ) where
 
   -- by whether the text is above the sizes
   abbrev By : {A : Type 0} → Answer A → Bool → Answer A
-  By a b = if b then refused 22 nowhere else on_sound p w a
+  By a b = when b then refused 22 nowhere else on_sound p w a
 
   pub take-refused : (x : Refusal) → refused_by x ≡ choose_answer choose m p.codepage w t → Planned (take_outcome choose p w t) (refused_by x) (Refused x) w t
   take-refused x e = refusing x (ap (outcome w) (go (268435455 <? length t) e))

@@ -1,6 +1,6 @@
 -- What a drop answers and what it leaves.
 use Rattle.std.specs.Prelude.{ℕ, ◌-◌, [], length, get_or, set, ℤ}
-use Rattle.common.specs.Choice.{if◌then◌else◌, ◌≤?◌}
+use Rattle.common.specs.Choice.{when◌then◌else◌, ◌≤?◌}
 use Rattle.common.specs.Answers.{Answer, gives, on_given, outcome}
 use Rattle.order.specs.Order.{drop_fits_lem}
 use Rattle.stringpool.specs.Pool.{Entry, entry, Rooms, entries_of, put_back, on_sound}
@@ -9,7 +9,7 @@ use Rattle.stringpool.specs.declared.pool.StringPool.{StringPool}
 
 -- "count down; at 0 the text goes"; of a count of 0 there is no drop (10)
 abbrev pub lessened : Entry → Entry
-lessened e = if e.count ≤? 1 then entry [] 0 else entry e.text (e.count - 1)
+lessened e = when e.count ≤? 1 then entry [] 0 else entry e.text (e.count - 1)
 
 -- "Drop: 8, 9, 10"
 abbrev pub drop_at_lem : StringPool → Rooms → ℕ → Answer (StringPool × Rooms)

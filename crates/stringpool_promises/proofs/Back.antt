@@ -8,7 +8,7 @@ use lib.Dec.{ltb, leb, eqb}
 use lib.ListN.{length, take, drop, get_or, length-append, length-take, get_or-eq_default}
 use lib.Seq.{length-take-le, take_all, take_at, drop_at, get_or-take}
 use borrow.Author.Tests.{ltb-true, ltb-false, leb-true, le-ltb, le-leb, lt-leb, eqb-true, eq-eqb}
-use Rattle.common.specs.Choice.{if◌then◌else◌}
+use Rattle.common.specs.Choice.{when◌then◌else◌}
 use Rattle.common.specs.Lists.{◌over◌, total}
 use Rattle.common.specs.Answers.{Answer, gives, refused, nowhere, outcome, on_given, written_to}
 use Rattle.little_endian.specs.Numbers.{bytes_of, number_at}
@@ -42,12 +42,12 @@ pub record Holds (l c : ℕ) : Type 0 where
 
 -- by its tests
 abbrev By : List ℕ → Bool → Bool → Found
-By s w d = if w then (if d then load.cut else one (number_at 4 s 4) (number_at 2 s 2) true 8) else one (number_at 2 s 0) (number_at 2 s 2) false 4
+By s w d = when w then (when d then load.cut else one (number_at 4 s 4) (number_at 2 s 2) true 8) else one (number_at 2 s 0) (number_at 2 s 2) false 4
 
 module _ (s : List ℕ) (h : 4 ≤ length s) where
   past : entry_in s ≡ By s (eqb (number_at 2 s 0) 0 && ltb 0 (number_at 2 s 2)) (ltb (length s) 8)
   past =
-      ap₂ (λ (a b : Bool). if a then ends (length s) else if b then load.cut else By s (eqb (number_at 2 s 0) 0 && ltb 0 (number_at 2 s 2)) (ltb (length s) 8))
+      ap₂ (λ (a b : Bool). when a then ends (length s) else when b then load.cut else By s (eqb (number_at 2 s 0) 0 && ltb 0 (number_at 2 s 2)) (ltb (length s) 8))
       (le-ltb (length s) 2 (omega arith)) (le-ltb (length s) 4 h)
 
 -- the numbers at the front of an entry's bytes
@@ -62,7 +62,7 @@ module _ (x c : ℕ) (r : List ℕ) (hx : x < 65536) (hc : c < 65536) where
 read_narrow : (l c : ℕ) (r : List ℕ) → Holds l c → wide l c ≡ false → entry_in (entry_bytes l c ++ r) ≡ one l c false 4
 read_narrow l c r h w =
     let short : l ≤ 65535 = go (leb l 65535) refl w in
-    let fits : short_of l ≡ l = ap (λ (b : Bool). if b then l else 0) (le-leb l 65535 short) in
+    let fits : short_of l ≡ l = ap (λ (b : Bool). when b then l else 0) (le-leb l 65535 short) in
     let s : List ℕ = bytes_of 2 l ++ bytes_of 2 c ++ r in
     let e : entry_bytes l c ++ r ≡ s = ap (λ (x : List ℕ). x ++ r) (is-narrow l c w) ∙ ap (λ (x : ℕ). bytes_of 2 x ++ bytes_of 2 c ++ r) fits in
     let a : number_at 2 s 0 ≡ l = first_number l c r (omega arith) h.counted in
@@ -75,7 +75,7 @@ read_narrow l c r h w =
     free true f g = clash (cc)
     free false f g = h.small (omega (arith, ltb-false 0 c f))
 
-    go : (b : Bool) → leb l 65535 ≡ b → (eqb (if b then l else 0) 0 && ltb 0 c) ≡ false → l ≤ 65535
+    go : (b : Bool) → leb l 65535 ≡ b → (eqb (when b then l else 0) 0 && ltb 0 c) ≡ false → l ≤ 65535
     go true f g = leb-true l 65535 f
     go false f g = free (ltb 0 c) refl g
 
@@ -127,7 +127,7 @@ between (more {l} {c} {ls} {cs} q a) =
 -- ---- the entries of a sound pool are such
 
 small_is : (l c : ℕ) → small_b l c ≡ true → c ≡ 0 → l ≤ 65535
-small_is l c e z = leb-true l 65535 (sym (ap (λ (b : Bool). if b then leb l 65535 else true) (eq-eqb c 0 z)) ∙ e)
+small_is l c e z = leb-true l 65535 (sym (ap (λ (b : Bool). when b then leb l 65535 else true) (eq-eqb c 0 z)) ∙ e)
 
 all_hold : (ls cs : List ℕ) → length ls ≡ length cs → total ls ≤ 268435455 → ((i : ℕ) → get_or cs i 0 < 65536) → all_small_lem ls cs ≡ true → AllHold ls cs
 all_hold [] [] e t c s = none
@@ -178,11 +178,11 @@ module _ (p : StringPool) (w : Rooms) (f : SoundFit p w) (size : length w.text �
   marked-pool : pool_from_lem S n ≡ p
   marked-pool = ap (λ (m : ℕ). record { num_strings = n; long_string_refs = leb 2147483648 m; codepage = m % 2147483648 }) (read_back 4 (mark_of p.long_string_refs p.codepage) (entries_bytes L C) (below p.long_string_refs)) ∙ go p.long_string_refs
     where
-      below : (b : Bool) → p.codepage + (if b then 2147483648 else 0) < 256 ^ 4
+      below : (b : Bool) → p.codepage + (when b then 2147483648 else 0) < 256 ^ 4
       below true = omega (arith, f.page)
       below false = omega (arith, f.page)
 
-      go : (b : Bool) → ◌≡◌ {A = StringPool} (record { num_strings = n; long_string_refs = leb 2147483648 (p.codepage + (if b then 2147483648 else 0)); codepage = (p.codepage + (if b then 2147483648 else 0)) % 2147483648 })
+      go : (b : Bool) → ◌≡◌ {A = StringPool} (record { num_strings = n; long_string_refs = leb 2147483648 (p.codepage + (when b then 2147483648 else 0)); codepage = (p.codepage + (when b then 2147483648 else 0)) % 2147483648 })
           (record { num_strings = n; long_string_refs = b; codepage = p.codepage })
       go true =
           let a : leb 2147483648 (p.codepage + 2147483648) ≡ true = le-leb 2147483648 (p.codepage + 2147483648) (omega arith) in
@@ -229,7 +229,7 @@ module _ (p : StringPool) (w : Rooms) (f : SoundFit p w) (size : length w.text �
 
 pub writes : (p : StringPool) (w : Rooms) (s out : List ℕ) → SoundState (record { pool = p; rooms = w }) → length s ≤ length out → Writes p w s out s
 writes p w s out h room =
-    ap₂ (λ (x y : Bool). outcome out (if x then refused 22 nowhere else if not y then refused 24 nowhere else written_to out s)) (le-ltb 268435455 (length w.text) h.0) h.1
+    ap₂ (λ (x y : Bool). outcome out (when x then refused 22 nowhere else when not y then refused 24 nowhere else written_to out s)) (le-ltb 268435455 (length w.text) h.0) h.1
     ∙ sym (write_done s out (length s) (s over out) room refl refl)
 
 pub reads_back : ReadsBack

@@ -8,7 +8,7 @@ use lib.ListN.{length, take, drop, get_or, set, replicate, length-append, length
 use lib.Seq.{take_at}
 use lib.Dec.{leb, eqb}
 use borrow.Author.Tests.{leb-false, ne_eqb}
-use Rattle.common.specs.Choice.{if◌then◌else◌}
+use Rattle.common.specs.Choice.{when◌then◌else◌}
 use Rattle.common.specs.Lists.{◌over◌, total}
 use Rattle.stringpool.specs.Pool.{Entry, entry, Rooms, texts, put_back, free, sound}
 use Rattle.stringpool.specs.Take.{increased, taken_at_lem}
@@ -31,7 +31,7 @@ abbrev pub SmallOne : Entry → Type 0
 SmallOne e = small_b (length e.text) e.count ≡ true
 
 small-cons : (e : Entry) (es : List Entry) → SmallOne e → Small es → Small (e ∷ es)
-small-cons e es a b = ap (λ (x : Bool). (if x then all_small_lem (lengths_of es) (counts_of es) else false)) a ∙ b
+small-cons e es a b = ap (λ (x : Bool). (when x then all_small_lem (lengths_of es) (counts_of es) else false)) a ∙ b
 
 small-set : (es : List Entry) (k : ℕ) (e : Entry) → SmallOne e → Small es → Small (set es k e)
 small-set [] k e a h = h
@@ -52,14 +52,14 @@ small-counted l c h = let f : eqb c 0 ≡ false = ne_eqb c 0 (omega arith) in si
 small-lessened : (e : Entry) → SmallOne (lessened e)
 small-lessened e = go (leb e.count 1) refl
   where
-    go : (b : Bool) → leb e.count 1 ≡ b → SmallOne (if b then entry [] 0 else entry e.text (e.count - 1))
+    go : (b : Bool) → leb e.count 1 ≡ b → SmallOne (when b then entry [] 0 else entry e.text (e.count - 1))
     go true f = refl
     go false f = small-counted (length e.text) (e.count - 1) (omega (arith, leb-false e.count 1 f))
 
 small-increased : (t : List ℕ) (e : Entry) → SmallOne (increased t e)
 small-increased t e = go (free e)
   where
-    go : (b : Bool) → SmallOne (if b then entry t 1 else entry e.text (e.count + 1))
+    go : (b : Bool) → SmallOne (when b then entry t 1 else entry e.text (e.count + 1))
     go true = small-counted (length t) 1 (omega arith)
     go false = small-counted (length e.text) (e.count + 1) (omega arith)
 

@@ -9,7 +9,7 @@ use lib.ListN.{length, get_or, set, length-set}
 use lib.IntN.{ℤ, pos, negsuc, nat_abs}
 use lib.Dec.{leb, ltb, eqb, eqb-suc-suc}
 use borrow.Author.Tests.{leb-true, leb-false, ltb-true, ltb-false, le-ltb, ne_eqb, not-false}
-use Rattle.common.specs.Choice.{if◌then◌else◌}
+use Rattle.common.specs.Choice.{when◌then◌else◌}
 use Rattle.common.specs.Answers.{Answer, gives, refused, Place, nowhere, on_given, outcome}
 use Rattle.stringpool.specs.Pool.{Entry, Rooms, entries_of, put_back, texts, entry_room_lem, sound, on_sound}
 use Rattle.stringpool.specs.Refs.{on_reference}
@@ -51,7 +51,7 @@ abbrev Fitting : Chooser → StringPool → Rooms → List ℕ → Bool → Answ
 Fitting choose p w t new =
     let es = entries_of p w in
     let after = length (texts (taken_at_lem t (choose t es) es)) in
-    if new then add_fits_lem p.long_string_refs (length es) (entry_room_lem w) after (length w.text) else text_fits after (length w.text)
+    when new then add_fits_lem p.long_string_refs (length es) (entry_room_lem w) after (length w.text) else text_fits after (length w.text)
 
 pub take-case : (choose : Chooser) (p : StringPool) (w : Rooms) (t : List ℕ) → choose t (entries_of p w) ≤ length (entries_of p w)
     → Case (take_answer choose p w t)
@@ -104,7 +104,7 @@ lessened_at p w k = set (entries_of p w) k (lessened (get_or (entries_of p w) k 
 
 -- a test that refuses, and then on with what was given
 test_given : {A B : Type 0} {y : A} {P : Type 0} (b : Bool) (n : ℕ) (at : Place) (v : B) (more : B → Answer A) → (b ≡ false → Case (more v) y P)
-    → Case (on_given (if b then refused n at else gives v) more) y P
+    → Case (on_given (when b then refused n at else gives v) more) y P
 test_given true n at v more f = no n at refl
 test_given false n at v more f = f refl
 
@@ -215,14 +215,14 @@ sound-step s (drop_of r) l h = drop-sound s r h (drop-case s.pool s.rooms r)
 
 pub on_sound-is : {A : Type 0} (s : State) → SoundState s → (a : Answer A) → on_sound s.pool s.rooms a ≡ a
 on_sound-is s h a =
-    ap₂ (λ (x y : Bool). if x then refused 22 nowhere else if not y then refused 24 nowhere else a) (le-ltb 268435455 (length s.rooms.text) h.0) h.1
+    ap₂ (λ (x y : Bool). when x then refused 22 nowhere else when not y then refused 24 nowhere else a) (le-ltb 268435455 (length s.rooms.text) h.0) h.1
 
 on_place : {A : Type 0} (k : ℕ) (more : ℕ → Answer A) → k < 16777215 → on_reference (pos (k + 1)) more ≡ more k
 on_place k more h =
     let a : ltb (k + 1) 1 ≡ false = le-ltb (k + 1) 1 (omega arith) in
     let b : ltb 16777215 (k + 1) ≡ false = le-ltb 16777215 (k + 1) (omega arith) in
     let i : k + 1 - 1 ≡ k = omega arith in
-    ap₂ (λ (x y : Bool). on_given (if x || y then refused 8 nowhere else gives (pos (k + 1))) (λ n. more (nat_abs n - 1))) a b ∙ ap more i
+    ap₂ (λ (x y : Bool). on_given (when x || y then refused 8 nowhere else gives (pos (k + 1))) (λ n. more (nat_abs n - 1))) a b ∙ ap more i
 
 shows-at : (s : State) → SoundState s → (k : ℕ) → k < 16777215 → shows s (pos (k + 1)) ≡ (get_or (entries s) k none).text
 shows-at s h k b = ap or_empty (on_sound-is s h (on_reference (pos (k + 1)) (λ i. gives (get_or (entries s) i none).text)) ∙ on_place k (λ i. gives (get_or (entries s) i none).text) b)
@@ -281,10 +281,10 @@ numbered (pos n) = go (ltb n 1) (ltb 16777215 n) refl refl
   where
     go : (a b : Bool) → ltb n 1 ≡ a → ltb 16777215 n ≡ b → Numbered (pos n)
     go true b f g =
-        outside (λ more. ap (λ (x : Bool). on_given (if x || ltb 16777215 n then refused 8 nowhere else gives (pos n)) (λ m. more (nat_abs m - 1))) f)
+        outside (λ more. ap (λ (x : Bool). on_given (when x || ltb 16777215 n then refused 8 nowhere else gives (pos n)) (λ m. more (nat_abs m - 1))) f)
         (λ m h. ne_eqb (m + 1) n (λ i. omega (arith, ltb-true n 1 f, i)))
     go false true f g =
-        outside (λ more. ap₂ (λ (x y : Bool). on_given (if x || y then refused 8 nowhere else gives (pos n)) (λ m. more (nat_abs m - 1))) f g)
+        outside (λ more. ap₂ (λ (x y : Bool). on_given (when x || y then refused 8 nowhere else gives (pos n)) (λ m. more (nat_abs m - 1))) f g)
         (λ m h. ne_eqb (m + 1) n (λ i. omega (arith, ltb-true 16777215 n g, i, h)))
     go false false f g =
         let a : 1 ≤ n = ltb-false n 1 f in

@@ -5,7 +5,7 @@ use native.Mathlib.Omega.{arith}
 use mathlib.Core.Bool.{Bool, true, false, ◌&&◌}
 use mathlib.Core.List.{List, ◌∷◌}
 use lib.Dec.{ltb, leb, eqb}
-use Rattle.common.specs.Choice.{if◌then◌else◌}
+use Rattle.common.specs.Choice.{when◌then◌else◌}
 use Rattle.common.specs.Lists.{◌over◌, total}
 use Rattle.common.specs.Answers.{Answer, gives, refused, on_given}
 use Rattle.stringpool.specs.declared.pool.StringPool.{StringPool}
@@ -37,7 +37,7 @@ pub view : (s : List ℕ) → View s (entry_in s)
 view s = go (ltb (length s) 2) (ltb (length s) 4) (eqb (number_at 2 s 0) 0) (ltb 0 (number_at 2 s 2)) (ltb (length s) 8) refl refl refl refl refl
   where
     go : (a b z c d : Bool) → ltb (length s) 2 ≡ a → ltb (length s) 4 ≡ b → eqb (number_at 2 s 0) 0 ≡ z → ltb 0 (number_at 2 s 2) ≡ c → ltb (length s) 8 ≡ d
-        → View s (if a then ends (length s) else if b then cut else if z && c then (if d then cut else one (number_at 4 s 4) (number_at 2 s 2) true 8) else one (number_at 2 s 0) (number_at 2 s 2) false 4)
+        → View s (when a then ends (length s) else when b then cut else when z && c then (when d then cut else one (number_at 4 s 4) (number_at 2 s 2) true 8) else one (number_at 2 s 0) (number_at 2 s 2) false 4)
     go true b z c d ea eb ez ec ed = at_end (ltb-true _ _ ea)
     go false true z c d ea eb ez ec ed = is_cut
     go false false true true true ea eb ez ec ed = is_cut
@@ -121,10 +121,10 @@ found_small s b (at_end h) = tt
 found_small s b is_cut = tt
 found_small s b (narrow h z) = go (eqb (number_at 2 s 2) 0)
   where
-    go : (t : Bool) → (if t then leb (number_at 2 s 0) 65535 else true) ≡ true
+    go : (t : Bool) → (when t then leb (number_at 2 s 0) 65535 else true) ≡ true
     go true = le-leb (number_at 2 s 0) 65535 (omega (arith, number_lt 2 s 0 b))
     go false = refl
-found_small s b (broad h z c) = ap (λ (t : Bool). if t then leb (number_at 4 s 4) 65535 else true) (ne_eqb (number_at 2 s 2) 0 (λ q. omega arith))
+found_small s b (broad h z c) = ap (λ (t : Bool). when t then leb (number_at 4 s 4) 65535 else true) (ne_eqb (number_at 2 s 2) 0 (λ q. omega arith))
 
 pub good : (f : ℕ) (s : List ℕ) → AreBytes s → (x : List ℕ × List ℕ) → entries_in f s ≡ gives x → Good x
 good zero s b x e = absurd (refused-gives e)
@@ -136,7 +136,7 @@ good (suc f) s b x e = go (entry_in s) refl e (λ k y q. good f (drop k s) (byte
         let g = gave (entries_in f (drop k s)) (λ y. gives (l ∷ y.0, c ∷ y.1)) x q in
         let h = ih k g.first g.is in
         let m : small_b l c ≡ true = subst SmallFound r (found_small s b (view s)) in
-        subst Good (ap (given x) g.then') (record { small = ap (λ (t : Bool). if t then all_small_lem g.first.0 g.first.1 else false) m ∙ h.small; even = ap suc h.even })
+        subst Good (ap (given x) g.then') (record { small = ap (λ (t : Bool). when t then all_small_lem g.first.0 g.first.1 else false) m ∙ h.small; even = ap suc h.even })
     go cut r q ih = absurd (refused-gives q)
     go (ends j) r q ih = subst Good (ap (given x) q) (record { small = refl; even = refl })
 

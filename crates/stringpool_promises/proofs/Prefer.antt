@@ -6,7 +6,7 @@ use mathlib.Core.Bool.{Bool, false}
 use mathlib.Core.List.{List}
 use lib.ListN.{length, get_or}
 use borrow.Author.Tests.{lt-ltb, le-ltb, eqb-false}
-use Rattle.common.specs.Choice.{if◌then◌else◌}
+use Rattle.common.specs.Choice.{when◌then◌else◌}
 use Rattle.common.specs.Answers.{refused, nowhere, outcome}
 use Rattle.pool_entries.proofs.Places.{first-place, counts_up}
 use Rattle.stringpool.specs.Pool.{Entry, Rooms, free, on_sound}
@@ -30,7 +30,7 @@ equal-counts_up s t h small here =
     let below : k < p.num_strings = omega (arith, here, length-entries p.num_strings w fit.fit) in
     let counted : free e ≡ false = (counts_up (free e) (equal t e) ((first-place (can_count_up_lem t) es).1 here)).0 in
     let up : 0 < get_or w.counts k 0 = omega (arith, eqb-false e.count 0 counted, count_at p.num_strings w fit.fit k below) in
-    ap (λ (b : Bool). outcome w (if b then refused 22 nowhere else on_sound p w (take_at p w t (equal_then_free_lem t es)))) (le-ltb 268435455 (length t) small)
+    ap (λ (b : Bool). outcome w (when b then refused 22 nowhere else on_sound p w (take_at p w t (equal_then_free_lem t es)))) (le-ltb 268435455 (length t) small)
     ∙ ap (outcome w) (on_sound-is s h (take_at p w t (equal_then_free_lem t es)))
-    ∙ ap (λ (b : Bool). outcome w (take_at p w t (if b then k else first_place free es))) (lt-ltb k (length es) here)
+    ∙ ap (λ (b : Bool). outcome w (take_at p w t (when b then k else first_place free es))) (lt-ltb k (length es) here)
     ∙ sym (equal-done p w fit.fit t k below fit.few up (get_or w.counts k 0 + 1) refl).is

@@ -10,7 +10,7 @@ use lib.ListN.{length, take, drop, length-drop, length-append, take-append-drop}
 use lib.Seq.{length-take-le, take_all, take_at, take-add}
 use borrow.Author.Tests.{leb-true, leb-false, lt-ltb, le-ltb, le-leb, eqb-true, eq-eqb, ne_eqb}
 use Rattle.common.proofs.Lists.{no_length}
-use Rattle.common.specs.Choice.{if◌then◌else◌}
+use Rattle.common.specs.Choice.{when◌then◌else◌}
 use Rattle.common.specs.Lists.{◌over◌, total}
 use Rattle.common.specs.Answers.{Answer, gives}
 use Rattle.little_endian.specs.Numbers.{bytes_of, number_at}
@@ -44,7 +44,7 @@ narrow-is : (s : List ℕ) → AreBytes s → (number_at 2 s 0 ≡ 0 → number_
 narrow-is s b z =
     let l : ℕ = number_at 2 s 0 in
     let c : ℕ = number_at 2 s 2 in
-    let e : short_of l ≡ l = ap (λ (t : Bool). if t then l else 0) (le-leb l 65535 (omega (arith, number_lt 2 s 0 b))) in
+    let e : short_of l ≡ l = ap (λ (t : Bool). when t then l else 0) (le-leb l 65535 (omega (arith, number_lt 2 s 0 b))) in
     (e, ap (λ (x : ℕ). eqb x 0 && ltb 0 c) e ∙ go (eqb l 0) refl)
   where
     go : (t : Bool) → eqb (number_at 2 s 0) 0 ≡ t → (t && ltb 0 (number_at 2 s 2)) ≡ false
@@ -60,7 +60,7 @@ module _ (l c : ℕ) (h : 0 < c) where
   broad_cases = go (leb 1 l) (leb l 65535) refl refl
     where
       go : (a b : Bool) → leb 1 l ≡ a → leb l 65535 ≡ b
-          → ((◌≡◌ {A = ℕ} (if a && b then 1 else 0) 0) × ((if b then l else 0) ≡ 0)) ⊎ ((◌≡◌ {A = ℕ} (if a && b then 1 else 0) 1) × ((eqb (if b then l else 0) 0 && ltb 0 c) ≡ false))
+          → ((◌≡◌ {A = ℕ} (when a && b then 1 else 0) 0) × ((when b then l else 0) ≡ 0)) ⊎ ((◌≡◌ {A = ℕ} (when a && b then 1 else 0) 1) × ((eqb (when b then l else 0) 0 && ltb 0 c) ≡ false))
       go true true e f = inr (refl, ap (λ (t : Bool). t && ltb 0 c) (ne_eqb l 0 (λ q. omega (arith, leb-true 1 l e))))
       go true false e f = inl (refl, refl)
       go false true e f = inl (refl, omega (arith, leb-false 1 l e))
@@ -143,7 +143,7 @@ module _ (s d : List ℕ) (w v : Rooms) (p : StringPool) (out : List ℕ) (b : A
   mark_same : bytes_of 4 Mark ≡ take 4 s
   mark_same = ap (bytes_of 4) (go (leb 2147483648 (number_at 4 s 0)) refl) ∙ write_back 4 s 0 b l.marked
     where
-      go : (t : Bool) → leb 2147483648 (number_at 4 s 0) ≡ t → number_at 4 s 0 % 2147483648 + (if t then 2147483648 else 0) ≡ number_at 4 s 0
+      go : (t : Bool) → leb 2147483648 (number_at 4 s 0) ≡ t → number_at 4 s 0 % 2147483648 + (when t then 2147483648 else 0) ≡ number_at 4 s 0
       go true f = omega (arith, leb-true 2147483648 (number_at 4 s 0) f, number_lt 4 s 0 b)
       go false f = omega (arith, leb-false 2147483648 (number_at 4 s 0) f)
 

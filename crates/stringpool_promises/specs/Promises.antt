@@ -1,7 +1,7 @@
 -- What is promised of a pool over several calls: demand 3, over any list of takes and drops; an equal entry counts up; soundness; what is written
 -- reads back; what was read is written back.
 use Rattle.std.specs.Prelude.{ℕ, zero, suc, ◌+◌, ◌≤◌, ◌<◌, ◌≡◌, ◌↔◌, Bool, true, false, ◌&&◌, List, [], ◌∷◌, ◌++◌, map, length, take, drop, get_or, set, ℤ, pos, negsuc}
-use Rattle.common.specs.Choice.{if◌then◌else◌, ◌≤?◌, ◌=?◌}
+use Rattle.common.specs.Choice.{when◌then◌else◌, ◌≤?◌, ◌=?◌}
 use Rattle.common.specs.Answers.{Answer, gives, refused}
 use Rattle.common.specs.Lists.{◌over◌, total}
 use Rattle.stringpool.specs.Pool.{Entry, Rooms, rooms, entries_of, entry_room_lem, sound}
@@ -76,7 +76,7 @@ answers (gives x) r = same_number x.0 r
 answers (refused n at) r = false
 
 abbrev pub one : Bool → ℕ
-one b = if b then 1 else 0
+one b = when b then 1 else 0
 
 -- at how many of the calls f holds
 abbrev pub tally : (State → Call → Bool) → State → List Call → ℕ
@@ -85,7 +85,7 @@ tally f s (c ∷ cs) = one (f s c) + tally f (after s c) cs
 
 -- what an entry counts for the text t
 abbrev pub count_for : List ℕ → Entry → ℕ
-count_for t e = if same_bytes e.text t then e.count else 0
+count_for t e = when same_bytes e.text t then e.count else 0
 
 abbrev pub sum_for : List ℕ → List Entry → ℕ
 sum_for t [] = 0
@@ -229,7 +229,7 @@ stray load.cut = 0
 stray (load.ends k) = k
 
 abbrev pub short_wide : Found → ℕ
-short_wide (load.one l c wide size) = if wide && 1 ≤? l && l ≤? 65535 then 1 else 0
+short_wide (load.one l c wide size) = when wide && 1 ≤? l && l ≤? 65535 then 1 else 0
 short_wide load.cut = 0
 short_wide (load.ends k) = 0
 

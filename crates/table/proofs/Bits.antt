@@ -8,7 +8,7 @@ use native.Mathlib.Omega.{arith}
 use lib.Dec.{eqb}
 use lib.IntN.{ℤ}
 use lib.ListN.{length, set}
-use Rattle.common.specs.Choice.{if◌then◌else◌}
+use Rattle.common.specs.Choice.{when◌then◌else◌}
 use Rattle.common.specs.Lists.{over_at, ◌over◌}
 use Rattle.common.specs.Answers.{Place, column, Answer, gives, refused, on_given, outcome}
 use Rattle.cell.specs.declared.form.ColumnType.{ColumnType}
@@ -34,7 +34,7 @@ placed c n = go (eqb (without 0x1000 n) 0x900) refl (has 0x800 n) refl (eqb (siz
     go : (a : Bool) → eqb (without 0x1000 n) 0x900 ≡ a → (b : Bool) → has 0x800 n ≡ b → (d : Bool) → eqb (size n) 4 ≡ d → (e : Bool) → (eqb (size n) 2 || eqb (size n) 1) ≡ e → Placed c n
     go true p b q d r e s = known Binary (rw p) (rw p)
     go false p true q d r e s = known (Str (size n)) (rw (p, q)) (rw (p, q))
-    go false p false q true r e s = known (if has 0x400 n then Binary else Int32) (rw (p, q, r)) (rw (p, q, r))
+    go false p false q true r e s = known (when has 0x400 n then Binary else Int32) (rw (p, q, r)) (rw (p, q, r))
     go false p false q false r true s = known Int16 (rw (p, q, r, s)) (rw (p, q, r, s))
     go false p false q false r false s = bad (rw (p, q, r, s)) (rw (p, q, r, s))
 

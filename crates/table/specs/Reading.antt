@@ -1,6 +1,6 @@
 -- Document 01, "Rows": cells read by their place and in bulk.
 use Rattle.std.specs.Prelude.{ℕ, ◌*◌, ◌||◌, List, ℤ, length}
-use Rattle.common.specs.Choice.{if◌then◌else◌, ◌<?◌}
+use Rattle.common.specs.Choice.{when◌then◌else◌, ◌<?◌}
 use Rattle.common.specs.Lists.{◌over◌}
 use Rattle.common.specs.Answers.{Answer, gives, refused, nowhere, on_given, outcome}
 use Rattle.common.specs.Refusals.{refused_by}
@@ -30,7 +30,7 @@ abbrev pub cells_read : Table → List ℕ → List ℕ → List ℤ → ℕ →
 cells_read t s kinds numbers rows =
     let cell = cell_at (types_of t) t.long_string_refs rows s in
     let cells = rows * t.count in
-    if length kinds <? cells || length numbers <? cells then refused 7 nowhere
+    when length kinds <? cells || length numbers <? cells then refused 7 nowhere
     else gives (cells, (row_by_row (λ r c. (cell r c).0) rows t.count over kinds, row_by_row (λ r c. (cell r c).1) rows t.count over numbers))
 
 abbrev pub read_rows_answer : Table → List ℕ → List ℕ → List ℤ → Answer (ℕ × (List ℕ × List ℤ))

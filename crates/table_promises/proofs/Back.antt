@@ -10,7 +10,7 @@ use lib.IntN.{ℤ, pos}
 use lib.ListN.{length, get_or, take, drop, length-append, length-drop}
 use lib.Seq.{take-append_seam, drop-drop, take-append-le, drop-append-le, drop_at}
 use borrow.Author.Tests.{lt-ltb, le-ltb, ne_eqb, eqb-true, eqb-false}
-use Rattle.common.specs.Choice.{if◌then◌else◌}
+use Rattle.common.specs.Choice.{when◌then◌else◌}
 use Rattle.common.specs.Lists.{◌over◌, joined, from}
 use Rattle.common.specs.Answers.{Place, nowhere, Answer, gives, refused, cell, each, refusal_of, on_given, outcome}
 use Rattle.little_endian.specs.Numbers.{bytes_of, number_at}
@@ -74,14 +74,14 @@ module _ (t : Table) (rows : ℕ) (cells : Cells) (out : List ℕ) (n : ℕ) (le
   done e = go (sound_columns t.columns t.count) refl order refl bytes refl e
     where
       room : (b : List ℕ) (d : Bool) → gives tt ≡ refusal_of (sound_columns t.columns t.count) → rows ≤ 65536 → bytes ≡ gives b
-          → outcome {A = ℕ} out (if d then refused 7 nowhere else gives (length b, b over out)) ≡ (gives n, left) → Done t rows cells out n left
+          → outcome {A = ℕ} out (when d then refused 7 nowhere else gives (length b, b over out)) ≡ (gives n, left) → Done t rows cells out n left
       room b true s f p q = absurd (never_pair 7 n nowhere out left q)
       room b false s f p q =
           let i = pair (length b) n (b over out) left q in
           record { sound = s; narrow = count-few t.columns t.count s; few = f; fine = rw p; count = rw p (sym i.0); is = rw p (sym i.1) }
 
       go : (x : Answer (List Column)) → sound_columns t.columns t.count ≡ x → (o : Answer (Unit {0})) → order ≡ o → (y : Answer (List ℕ)) → bytes ≡ y
-          → outcome out (on_given x (λ xs. on_given o (λ z. on_given y (λ c. if ltb (length out) (length c) then refused 7 nowhere else gives (length c, c over out))))) ≡ (gives n, left)
+          → outcome out (on_given x (λ xs. on_given o (λ z. on_given y (λ c. when ltb (length out) (length c) then refused 7 nowhere else gives (length c, c over out))))) ≡ (gives n, left)
           → Done t rows cells out n left
       go (refused m at) p o q y u f = absurd (never_pair m n at out left f)
       go (gives xs) p (refused m at) q y u f = absurd (never_pair m n at out left f)
@@ -215,7 +215,7 @@ size-ge long (t ∷ ts) = omega (arith, size-ge long ts, width-ge t long)
     width-ge (Str max) false = lit≤ tt
     width-ge Binary long = lit≤ tt
 
-rows_back : (size rows n : ℕ) (b : Bool) → eqb size 0 ≡ b → n ≡ rows * size → b ≡ false → (if b then 0 else n / size) ≡ rows
+rows_back : (size rows n : ℕ) (b : Bool) → eqb size 0 ≡ b → n ≡ rows * size → b ≡ false → (when b then 0 else n / size) ≡ rows
 rows_back size rows n true e q z = clash (cc)
 rows_back size rows n false e q z =
     let p = eqb-false size 0 e in

@@ -9,7 +9,7 @@ use lib.Dec.{ltb}
 use borrow.Author.Tests.{le-ltb, ltb-false}
 use lib.ListN.{length, get_or, drop, length-map, drop_of_length-le}
 use lib.Seq.{get_or-take, length-take-le, slice-cons}
-use Rattle.common.specs.Choice.{if◌then◌else◌}
+use Rattle.common.specs.Choice.{when◌then◌else◌}
 use Rattle.common.specs.Answers.{Place, nowhere, Answer, gives, refused, on_given, refusal_of}
 use Rattle.common.proofs.Bools.{clash}
 use Rattle.common.proofs.Answers.{given_refusal, after-given, after-refused, passed}
@@ -68,7 +68,7 @@ columns_passed columns count a e = passed (sound_columns columns count) a e
 pub judged-is : (columns : List Column) (count : ℕ) → count ≤ 64 → sound_columns columns count ≡ each_at sound_column 0 (used_columns columns count)
 judged-is columns count few = rw (le-ltb 64 count few)
 
-few-columns : (n : ℕ) (b : Bool) → ltb 64 n ≡ b → (x : Answer (List Column)) → gives tt ≡ refusal_of (if b then refused 20 nowhere else x) → n ≤ 64
+few-columns : (n : ℕ) (b : Bool) → ltb 64 n ≡ b → (x : Answer (List Column)) → gives tt ≡ refusal_of (when b then refused 20 nowhere else x) → n ≤ 64
 few-columns n true q x e = clash (cc)
 few-columns n false q x e = ltb-false 64 n q
 

@@ -8,7 +8,7 @@ use native.Mathlib.Omega.{arith}
 use lib.Dec.{lit≤, ltb, eqb}
 use borrow.Author.Tests.{ltb-false, ne_eqb}
 use lib.ListN.{length, get_or, take, drop, length-map, get_or-append}
-use Rattle.common.specs.Choice.{if◌then◌else◌}
+use Rattle.common.specs.Choice.{when◌then◌else◌}
 use Rattle.common.specs.Lists.{◌over◌}
 use Rattle.common.specs.Answers.{Place, Answer, nowhere, gives, refused, on_given, refusal_of, outcome}
 use Rattle.common.proofs.Bools.{clash}
@@ -82,7 +82,7 @@ module _ (ts : List ColumnType) (long : Bool) (c : ℕ) (h : c < length ts) wher
 -- ---- the rows of a stream
 
 -- they lie within it
-rows_within : (size n rows : ℕ) (b : Bool) → eqb size 0 ≡ b → rows ≡ (if b then 0 else n / size) → rows * size ≤ n
+rows_within : (size n rows : ℕ) (b : Bool) → eqb size 0 ≡ b → rows ≡ (when b then 0 else n / size) → rows * size ≤ n
 rows_within size n rows true e q = rw (q, zero-mul) (omega arith)
 rows_within size n rows false e q = rw q (div-mul-le_self n size)
 
@@ -113,7 +113,7 @@ module _ (columns : List Column) (count : ℕ) (long : Bool) (bytes rows : ℕ) 
   found e = go (ltb 268435455 bytes) refl (sound_columns columns count) refl (ltb 65536 all) refl e
     where
       go : (a : Bool) → ltb 268435455 bytes ≡ a → (x : Answer (List Column)) → sound_columns columns count ≡ x → (b : Bool) → ltb 65536 all ≡ b
-          → (if a then refused 22 nowhere else on_given x (λ y. if b then refused 14 nowhere else gives all)) ≡ gives rows → Found columns count long bytes rows
+          → (when a then refused 22 nowhere else on_given x (λ y. when b then refused 14 nowhere else gives all)) ≡ gives rows → Found columns count long bytes rows
       go true p x q b r f = clash (cc)
       go false p (refused n at) q b r f = clash (cc)
       go false p (gives y) q true r f = clash (cc)

@@ -1,6 +1,6 @@
 -- Document 01's order "Table: 20, 13 or 19 at the first bad column".
 use Rattle.std.specs.Prelude.{ℕ, suc, List, [], ◌∷◌, map, take}
-use Rattle.common.specs.Choice.{if◌then◌else◌, ◌<?◌}
+use Rattle.common.specs.Choice.{when◌then◌else◌, ◌<?◌}
 use Rattle.common.specs.Sizes.{max_columns}
 use Rattle.common.specs.Answers.{Answer, gives, refused, nowhere, on_given, each}
 use Rattle.cell.specs.declared.form.ColumnType.{ColumnType}
@@ -18,7 +18,7 @@ each_at judge c xs = each (λ p. judge p.0 p.1) (placed c xs)
 
 -- "20, 13 or 19 at the first bad column": one judge of bits and of columns
 abbrev pub judged : {A B : Type 0} → (ℕ → A → Answer B) → ℕ → List A → Answer (List B)
-judged judge count xs = if max_columns <? count then refused 20 nowhere else each_at judge 0 xs
+judged judge count xs = when max_columns <? count then refused 20 nowhere else each_at judge 0 xs
 
 -- the columns in use, and their types
 abbrev pub used_columns : List Column → ℕ → List Column

@@ -1,6 +1,6 @@
 -- Document 01, "Rows": the rows of a stream, and where its cells begin.
 use Rattle.std.specs.Prelude.{ℕ, ◌+◌, ◌*◌, ◌/◌, Bool, List, [], ◌∷◌, take}
-use Rattle.common.specs.Choice.{if◌then◌else◌, ◌<?◌, ◌=?◌}
+use Rattle.common.specs.Choice.{when◌then◌else◌, ◌<?◌, ◌=?◌}
 use Rattle.common.specs.Sizes.{max_bytes, max_rows}
 use Rattle.common.specs.Lists.{◌over◌}
 use Rattle.common.specs.Answers.{Answer, gives, refused, nowhere, on_given, outcome}
@@ -15,7 +15,7 @@ use Rattle.widths.specs.Widths.{widths_in, row_size_lem, type_at, zeros}
 
 -- "rows are stream length divided by it, rounded down, 0 with no columns"
 abbrev pub rows_in : List ColumnType → Bool → ℕ → ℕ
-rows_in ts long bytes = if row_size_lem ts long =? 0 then 0 else bytes / row_size_lem ts long
+rows_in ts long bytes = when row_size_lem ts long =? 0 then 0 else bytes / row_size_lem ts long
 
 -- "The cell at row r, column c starts at rows times the widths before c, plus r times c's width"
 abbrev pub cell_start : List ColumnType → Bool → ℕ → ℕ → ℕ → ℕ
@@ -34,12 +34,12 @@ places_for ts long rows = record { rows = rows; widths = widths_in ts long over 
 abbrev pub rows_found : List ColumnType → Bool → ℕ → Answer ℕ
 rows_found ts long bytes =
     let rows = rows_in ts long bytes in
-    if max_rows <? rows then refused 14 nowhere else gives rows
+    when max_rows <? rows then refused 14 nowhere else gives rows
 
 -- the rows of a stream: 22, 20, 19, 14
 abbrev pub rows_answer : List Column → ℕ → Bool → ℕ → Answer ℕ
 rows_answer columns count long bytes =
-    if max_bytes <? bytes then refused 22 nowhere else on_sound_columns columns count (rows_found (used_types columns count) long bytes)
+    when max_bytes <? bytes then refused 22 nowhere else on_sound_columns columns count (rows_found (used_types columns count) long bytes)
 
 -- and the places of its columns
 abbrev pub no_places_lem : Places

@@ -1,6 +1,6 @@
 // The rows of a stream, and where each column begins in it.
 ghost use Rattle.std.specs.Prelude.{◌≡◌, ◌*◌, ◌/◌, ◌<◌, ◌≤◌, take};
-ghost use Rattle.common.specs.Choice.{if◌then◌else◌, ◌=?◌};
+ghost use Rattle.common.specs.Choice.{when◌then◌else◌, ◌=?◌};
 ghost use Rattle.common.specs.Lists.{◌over◌, total};
 ghost use Rattle.widths.specs.Widths.{zeros};
 ghost use Rattle.widths.specs.Places.{starts_from, no_places_lem, places_outcome, places_as};
@@ -74,7 +74,7 @@ fn no_places(refusal: Refusal) -> PlacesFound
 }
 
 fn rows_of(row_size: usize, bytes: usize) -> usize
-    ensures { result ≡ (if row_size =? 0 then 0 else bytes / row_size) }
+    ensures { result ≡ (when row_size =? 0 then 0 else bytes / row_size) }
 {
     if row_size == 0 {
         return 0;

@@ -1,6 +1,6 @@
 -- The judgement of a state, as the code makes it.
 use Rattle.std.specs.Prelude.{ℕ, Bool, true, false, List, [], ◌∷◌, length, take, ◌==◌, nat_le, nat_lt}
-use Rattle.common.specs.Choice.{if◌then◌else◌}
+use Rattle.common.specs.Choice.{when◌then◌else◌}
 use Rattle.common.specs.Lists.{total}
 use Rattle.pool_entries.specs.Entries.{Rooms}
 use Rattle.pool_entries.specs.declared.judging.State.{State}
@@ -9,29 +9,29 @@ use Rattle.common.specs.declared.refusal.Refusal.TheVariants.{Unsound}
 
 -- an entry with count 0 has at most 65,535 bytes
 abbrev pub small_b : ℕ → ℕ → Bool
-small_b l c = if c == 0 then nat_le l 65535 else true
+small_b l c = when c == 0 then nat_le l 65535 else true
 
 -- that of every entry
 abbrev pub all_small_lem : List ℕ → List ℕ → Bool
 all_small_lem [] cs = true
 all_small_lem (l ∷ ls) [] = true
-all_small_lem (l ∷ ls) (c ∷ cs) = if small_b l c then all_small_lem ls cs else false
+all_small_lem (l ∷ ls) (c ∷ cs) = when small_b l c then all_small_lem ls cs else false
 
 -- every free entry is small, and the lengths sum to at most the text room
 abbrev pub sums_b : ℕ → List ℕ → List ℕ → ℕ → Bool
-sums_b n ls cs room = if all_small_lem (take n ls) (take n cs) then nat_le (total (take n ls)) room else false
+sums_b n ls cs room = when all_small_lem (take n ls) (take n cs) then nat_le (total (take n ls)) room else false
 
 -- the tests but for those of the lengths
 unfoldable pub fits_b : ℕ → ℕ → List ℕ → List ℕ → Bool
 fits_b n codepage ls cs =
-    if nat_lt (length ls) n then false
-    else if nat_lt (length cs) n then false
-    else if nat_lt 16777215 n then false
+    when nat_lt (length ls) n then false
+    else when nat_lt (length cs) n then false
+    else when nat_lt 16777215 n then false
     else nat_le codepage 2147483647
 
 abbrev pub sound_b : ℕ → ℕ → Rooms → Bool
-sound_b n codepage w = if fits_b n codepage w.lengths w.counts then sums_b n w.lengths w.counts (length w.text) else false
+sound_b n codepage w = when fits_b n codepage w.lengths w.counts then sums_b n w.lengths w.counts (length w.text) else false
 
 -- the bytes that the entries use
 abbrev pub used_of : ℕ → List ℕ → List ℕ → ℕ → State
-used_of n ls cs room = if sums_b n ls cs room then state.Sound (total (take n ls)) else state.Refused Unsound
+used_of n ls cs room = when sums_b n ls cs room then state.Sound (total (take n ls)) else state.Refused Unsound

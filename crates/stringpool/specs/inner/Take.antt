@@ -1,7 +1,7 @@
 -- What a take knows of the entry that was chosen, and what it answers.
 use Rattle.std.specs.Prelude.{ℕ, ◌+◌, ◌≤◌, ◌<◌, ◌≡◌, List, length, take, get_or, ℤ}
 use Rattle.common.specs.Lists.{total}
-use Rattle.common.specs.Choice.{◌<?◌, if◌then◌else◌}
+use Rattle.common.specs.Choice.{◌<?◌, when◌then◌else◌}
 use Rattle.common.specs.Answers.{Answer, gives}
 use Rattle.common.specs.Refusals.{refused_by}
 use Rattle.stringpool.specs.Pool.{Rooms}
@@ -43,7 +43,7 @@ pub record Chosen (p : StringPool) (w : Rooms) (t : List ℕ) (c : Choice) : Typ
 
 -- the pool with an entry at k: one of its own, or one that is added
 abbrev pub holding_at : StringPool → ℕ → StringPool
-holding_at p k = if k <? p.num_strings then p else counting p (k + 1)
+holding_at p k = when k <? p.num_strings then p else counting p (k + 1)
 
 -- what a take of a plan answers
 abbrev pub taken_by : StringPool → Plan → Answer (ℤ × StringPool)

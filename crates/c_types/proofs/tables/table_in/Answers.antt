@@ -1,11 +1,9 @@
 use Rattle.column.specs.Columns.{building}
-use mathlib.Core.Path.{◌≡◌, refl, sym}
-use Prim.Native.Nat.{◌-◌, ◌≤◌}
+use mathlib.Core.Path.{◌≡◌, refl}
 use native.Mathlib.Omega.{arith}
-use lib.ListN.{length, length-map}
+use lib.ListN.{length}
 use Rattle.c_types.specs.Columns.{column_from, builder_out_lem}
-use Rattle.c_types.proofs.Mapped.{Mapped, mapped_begin, mapped_step, mapped_done}
-use Rattle.std.proofs.Common.{rules}
+use Rattle.c_types.proofs.Mapped.{mapped_step}
 use Rattle.c_types.proofs.tables.table_in.Goals as goal
 
 pub loop-c-preserved : goal.loop-c-preserved

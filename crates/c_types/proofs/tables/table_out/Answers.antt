@@ -1,12 +1,10 @@
 use Rattle.column.specs.Columns.{building, finished}
 use Rattle.cell.specs.declared.form.ColumnType.TheVariants.{Int16}
-use mathlib.Core.Path.{◌≡◌, refl, sym}
-use Prim.Native.Nat.{◌-◌, ◌≤◌}
+use mathlib.Core.Path.{◌≡◌, refl}
 use native.Mathlib.Omega.{arith}
-use lib.ListN.{length, length-map}
+use lib.ListN.{length}
 use Rattle.c_types.specs.Columns.{parts_of}
-use Rattle.c_types.proofs.Mapped.{Mapped, mapped_begin, mapped_step, mapped_done}
-use Rattle.std.proofs.Common.{rules}
+use Rattle.c_types.proofs.Mapped.{mapped_step}
 use Rattle.c_types.proofs.tables.table_out.Goals as goal
 
 pub loop-c-preserved : goal.loop-c-preserved

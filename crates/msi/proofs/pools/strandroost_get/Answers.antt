@@ -6,10 +6,9 @@ use mir.Syntax.{w32}
 use mir.Val.{to_z, of_z}
 use Rattle.common.specs.Answers.{Answer, refusal_of}
 use Rattle.stringpool.specs.Pool.{Rooms, rooms}
-use Rattle.stringpool.specs.Show.{show_answer, or_empty, showable_as}
-use Rattle.msi.proofs.Gets.{got_refused, got_given}
+use Rattle.stringpool.specs.Show.{show_answer, showable_as}
+use Rattle.msi.proofs.Gets.{got_refused}
 use Rattle.c_types.proofs.Numbers.{back}
-use Rattle.std.proofs.Common.{rules}
 use Rattle.msi.proofs.pools.strandroost_get.Goals as goal
 
 pub returns-in-Refused : goal.returns-in-Refused

@@ -7,7 +7,6 @@ use Rattle.c_types.specs.Answers.{refusal_in}
 use Rattle.c_types.proofs.Numbers.{back}
 use Rattle.msi.proofs.Gets.{refusal_kept}
 use Rattle.msi.proofs.Handed.{says}
-use Rattle.std.proofs.Common.{rules}
 use Rattle.msi.proofs.pools.strandroost_get_refusal.Goals as goal
 
 pub returns : goal.returns

@@ -4,7 +4,6 @@ use Rattle.stringpool.specs.Take.{equal_then_free_lem}
 use Rattle.c_types.specs.Values.{plain_in_lem}
 use Rattle.c_types.proofs.Numbers.{back}
 use Rattle.msi.proofs.UnknownKinds.{creates}
-use Rattle.std.proofs.Common.{rules}
 use Rattle.msi.proofs.values.strandroost_create.Goals as goal
 
 pub returns : goal.returns

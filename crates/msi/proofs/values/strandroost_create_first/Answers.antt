@@ -4,7 +4,6 @@ use Rattle.stringpool.specs.Take.{first_free_or_equal}
 use Rattle.c_types.specs.Values.{plain_in_lem}
 use Rattle.c_types.proofs.Numbers.{back}
 use Rattle.msi.proofs.UnknownKinds.{creates}
-use Rattle.std.proofs.Common.{rules}
 use Rattle.msi.proofs.values.strandroost_create_first.Goals as goal
 
 pub returns : goal.returns

@@ -13,8 +13,7 @@ use Rattle.c_types.specs.Unknown.{on_kind}
 use Rattle.c_types.specs.Values.{value_in_lem}
 use Rattle.msi.proofs.Gets.{written, got_refused, got_given, refusal_said, given_said}
 use Rattle.c_types.proofs.Numbers.{back}
-use Rattle.msi.proofs.UnknownKinds.{kind_refused, kind_known, text-unknown}
-use Rattle.std.proofs.Common.{rules}
+use Rattle.msi.proofs.UnknownKinds.{kind_refused, kind_known}
 use Rattle.msi.proofs.values.strandroost_to_text.Goals as goal
 
 pub returns-in-Refused : goal.returns-in-Refused

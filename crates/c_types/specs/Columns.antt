@@ -17,7 +17,7 @@ use Rattle.c_types.specs.declared.answers.ColumnParts.{ColumnParts}
 use Rattle.c_types.specs.declared.answers.ColumnAnswer.{ColumnAnswer}
 use Rattle.c_types.specs.declared.columns.RangeParts.{RangeParts}
 
--- An unknown type is taken to a Str beyond its maximum: every call refuses that as a bad column, in 01's order, with 19. So `onColumn`
+-- An unknown type is taken to a Str beyond its maximum: every call refuses that as a bad column, in 01's order, with 19. So `on_column`
 -- has only the number to say anew.
 abbrev pub coltype_in : ColumnParts → ColumnType
 coltype_in p =

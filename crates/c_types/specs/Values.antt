@@ -19,7 +19,7 @@ use Rattle.c_types.specs.Unknown.{on_kind}
 use Rattle.c_types.specs.declared.answers.ColumnParts.{ColumnParts}
 use Rattle.c_types.specs.declared.answers.CreateAnswer.{CreateAnswer}
 
--- "0 Null, 1 Int, 2 Str, 3 Binary"; an unknown kind is judged as Binary is, and `onKind` then refuses it
+-- "0 Null, 1 Int, 2 Str, 3 Binary"; an unknown kind is judged as Binary is, and `on_kind` then refuses it
 abbrev pub value_in_lem : ℕ → ℤ → ValueRef
 value_in_lem kind n =
     when kind =? 0 then values.Null

@@ -5,6 +5,7 @@ Run once, at the top, after the toolchain's own port.py, in a tree that was writ
 dash stays only where it joins the name of a definition, or of one of the library's, to another name. Types and modules keep their
 capitals. Functions of src/, exported names, strings, inputs and outputs stay. Prints each name that it changes, and those that it
 leaves because the new one is taken; a definition whose new name a function of src/ or a lemma has gets `_lem` after it. The same words are changed in docs/, README.md, .ci/ and the edits, where they name what is here.
+Exits 0 where it is done, 2 where it was done already.
 """
 import glob
 import os
@@ -65,8 +66,17 @@ def outside_comments(text, table, mark):
     return '\n'.join(lines)
 
 
-def main():
+def main(words):
+    if words in (['-h'], ['--help']):
+        print(__doc__.strip())
+        return 0
+    if words:
+        print(f'tools/respell.py takes nothing, and was given {" ".join(words)!r} (--help says what it does)')
+        return 2
     os.chdir(os.path.dirname(os.path.dirname(os.path.realpath(__file__))))
+    if os.path.exists('docs/PORT.md'):
+        print('this tree is respelled already (docs/PORT.md): nothing was changed')
+        return 2
     specs = sorted(glob.glob('crates/*/specs/**/*.antt', recursive=True))
     lemmas = sorted(glob.glob('crates/*/proofs/*.antt'))
     proofs = sorted(set(glob.glob('crates/*/proofs/**/*.antt', recursive=True)) - set(lemmas))
@@ -126,4 +136,4 @@ def main():
 
 
 if __name__ == '__main__':
-    sys.exit(main())
+    sys.exit(main(sys.argv[1:]))

@@ -58,7 +58,11 @@ def pairs(text):
 def function_at(top, crate, file, line):
     """The function that has a line of src/, as `rt` names it. An edit changes text within lines, so the line is the same without it."""
     owner = function = None
-    for text in read(f'{top}/crates/{crate}/src/{file}.rt').splitlines()[:line]:
+    lines = read(f'{top}/crates/{crate}/src/{file}.rt').splitlines()
+    # (`rt` counts a function's attributes to it, and may name the line of the first)
+    while line < len(lines) and re.match(r' *#\[', lines[line - 1]):
+        line += 1
+    for text in lines[:line]:
         if found := re.match(r'impl(?:<[^>]*>)? (\w+)', text):
             owner, function = found.group(1), None
         elif found := re.match(r'( {4})?(?:pub )?(?:pub\(crate\) )?(?:extern "C" )?fn (\w+)', text):

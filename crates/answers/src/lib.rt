@@ -3,60 +3,44 @@
 
 mod line;
 
-ghost use Rattle.std.specs.Prelude.{◌≤◌, length, IfOk};
+ghost use Rattle.std.specs.Prelude.{◌≡◌, ◌≤◌, length, IfOk};
 
 use commands::shown;
-use commands::words::{LINE, after, byte, end_of};
+use commands::words::{End, Words};
 use room_commands::Desk;
 use std::io;
 use std::io::{Read, Write};
-
-// Whether a line is a command: a comment and an empty line have no answer.
-fn is_command(first: u8) -> bool {
-    match first {
-        b'#' => false,
-        b'\n' => false,
-        _ => true,
-    }
-}
+use stringpool::RoomsMut;
 
 fn answer<W: Write>(
     w: &mut W,
-    s: &[u8],
-    at: usize,
+    line: Words<'_>,
     desk: Desk,
-    lengths: &mut [u32],
-    counts: &mut [u16],
-    text: &mut [u8],
+    rooms: &mut RoomsMut<'_>,
     out: &mut [u8],
 ) -> io::Result<Desk> {
-    if is_command(byte(s, at)) {
-        let after = line::answer(w, s, at, desk, lengths, counts, text, out)?;
-        shown::say(w, b"\n")?;
-        return Ok(after);
+    // A comment and an empty line have no answer.
+    if matches!(line.byte(), b'#' | b'\n') {
+        return Ok(desk);
     }
-    Ok(desk)
+    let after = line::answer(w, line, desk, rooms, out)?;
+    shown::say(w, b"\n")?;
+    Ok(after)
 }
 
 // Each line of a text.
 fn each<W: Write>(
     w: &mut W,
-    s: &[u8],
-    lengths: &mut [u32],
-    counts: &mut [u16],
-    text: &mut [u8],
+    text: &[u8],
+    rooms: &mut RoomsMut<'_>,
     out: &mut [u8],
 ) -> io::Result<()> {
     let mut desk = Desk::new();
-    let mut at = 0;
-    let mut turns = s.len();
-    while turns > 0 {
-        if at >= s.len() {
-            return Ok(());
-        }
-        desk = answer(w, s, at, desk, lengths, counts, text, out)?;
-        at = after(s, end_of(s, at, LINE));
-        turns -= 1;
+    let mut line = Words { text, at: 0 };
+    // A step is as long as its line.
+    while line.at < text.len() {
+        desk = answer(w, line, desk, rooms, out)?;
+        line = line.end(End::Line).after();
     }
     Ok(())
 }
@@ -66,38 +50,40 @@ pub fn read_in<R: Read>(r: &mut R, list: &mut [u8]) -> io::Result<usize>
     ensures { IfOk result (λ n. n ≤ length list.new) }
 {
     let mut done = 0;
+    // A step is as long as what the reader had.
     while done < list.len() {
         let n = r.read(&mut list[done..])?;
         if n == 0 {
-            return Ok(done);
+            break;
         }
         done += n;
     }
     Ok(done)
 }
 
+// An array that a call gives back is known by its size: known place by place, 600,000 places are too many for a check.
+fn room<T: Copy, const N: usize>(filled: T) -> [T; N]
+    ensures { length result ≡ N }
+{
+    [filled; N]
+}
+
 // Answers each line of a text, with one pool.
-pub fn lines<W: Write>(w: &mut W, s: &[u8]) -> io::Result<()> {
-    let mut lengths = lengths_room();
-    let mut counts = counts_room();
-    let mut text = text_room();
-    let mut out = output_room();
-    each(w, s, &mut lengths, &mut counts, &mut text, &mut out)
+pub fn lines<W: Write>(w: &mut W, text: &[u8]) -> io::Result<()> {
+    let mut lengths = room::<u32, 65_600>(0xEEEE_EEEE);
+    let mut counts = room::<u16, 65_600>(0xEEEE);
+    let mut texts = room::<u8, 131_072>(0xEE);
+    let mut out = room::<u8, 600_000>(0xEE);
+    let mut rooms = RoomsMut {
+        lengths: &mut lengths,
+        counts: &mut counts,
+        text: &mut texts,
+    };
+    each(w, text, &mut rooms, &mut out)
 }
 
-// An array that a call gives back is known by its size, and not place by place.
-fn lengths_room() -> [u32; 65600] {
-    [0xEEEE_EEEEu32; 65600]
-}
-
-fn counts_room() -> [u16; 65600] {
-    [0xEEEEu16; 65600]
-}
-
-fn text_room() -> [u8; 131072] {
-    [0xEEu8; 131072]
-}
-
-fn output_room() -> [u8; 600000] {
-    [0xEEu8; 600000]
+// Answers the lines that a reader has, as far as the room for them goes.
+pub fn all<R: Read, W: Write>(r: &mut R, w: &mut W, room: &mut [u8]) -> io::Result<()> {
+    let used = read_in(r, room)?;
+    lines(w, &room[..used])
 }

@@ -1,160 +1,105 @@
 // The command on a line, by its first word.
-ghost use Rattle.std.specs.Prelude.{◌<◌};
-
-use commands::words::{WORD, byte, end_of, is, next};
+use commands::words::Words;
 use commands::{places, shown};
-use pool_commands::{
-    COUNT, DROP, LOAD, NEW, PAGE, STATE, SUM, TAKE, TAKE_DEFAULT, WDATA, WPOOL, change,
-};
 use room_commands::Desk;
 use std::io;
 use std::io::Write;
-use value_commands::{CREATE, CREATE_DEFAULT, REMOVE, SHOW, VALUE};
+use stringpool::RoomsMut;
 
-// Commands, each the bytes of its word as one number, the first byte the highest.
-const LEND: u64 = 0x6c656e64;
-
-const ROWS: u64 = 0x726f7773;
-
-const HOLD: u64 = 0x686f6c64;
-
-const HELD: u64 = 0x68656c64;
-
-const ENC: u64 = 0x656e63;
-
-const DEC: u64 = 0x646563;
-
-const VALID: u64 = 0x76616c6964;
-
-const REF: u64 = 0x726566;
-
-const OUT: u64 = 0x6f7574;
-
-const POOL: u64 = 0x706f6f6c;
-
-const READ: u64 = 0x72656164;
-
-const WRITE: u64 = 0x7772697465;
-
-const PLACE: u64 = 0x706c616365;
-
-const COL: u64 = 0x636f6c;
-
-const CHECK: u64 = 0x636865636b;
-
-fn wide(b: u8) -> u64
-    ensures { result < 256 }
-{
-    b as u64
-}
-
-// The bytes of the word at `at` as such a number; of more than seven, which are no command's here, the last seven.
-fn number(s: &[u8], at: usize) -> u64 {
-    let mut sum: u64 = 0;
-    for i in at..end_of(s, at, WORD) {
-        sum = sum % 281_474_976_710_656 * 256 + wide(byte(s, i));
+// The word of a command. Of a long one the last seven bytes count, and zeros before a command do not.
+fn command<'a>(line: Words<'a>) -> &'a [u8] {
+    let word = line.word();
+    if matches!(word, b"take-default" | b"create-default") {
+        return word;
     }
-    sum
-}
-
-// The word at `at` as the number of its command.
-fn word(s: &[u8], at: usize) -> u64 {
-    if is(s, at, b"take-default") {
-        return TAKE_DEFAULT;
-    }
-    if is(s, at, b"create-default") {
-        return CREATE_DEFAULT;
-    }
-    number(s, at)
+    let last = &word[word.len().saturating_sub(7)..];
+    let zeros = last.iter().take_while(|b| **b == 0).count();
+    &last[zeros..]
 }
 
 // The commands that no pool is lent to.
-fn plain<W: Write>(
-    w: &mut W,
-    word: u64,
-    s: &[u8],
-    at: usize,
-    desk: Desk,
-    out: &mut [u8],
-) -> io::Result<Desk> {
-    match word {
-        ENC | DEC => return name_commands::changed(w, word == ENC, s, at, desk, out),
-        OUT => return room_commands::out(w, s, at, desk),
-        POOL => return room_commands::pool(w, s, at, desk),
-        READ => return row_commands::read(w, s, at, desk, out),
-        WRITE => return table_commands::write(w, s, at, desk, out),
-        VALID => name_commands::is_valid(w, s, at)?,
-        REF => name_commands::reference(w, s, at)?,
-        PLACE => row_commands::place(w, s, at)?,
-        COL => table_commands::columns::made(w, s, at)?,
-        CHECK => table_commands::columns::checked(w, s, at)?,
+fn plain<W: Write>(w: &mut W, line: Words<'_>, desk: Desk, out: &mut [u8]) -> io::Result<Desk> {
+    let words = line.next();
+    match command(line) {
+        b"enc" => return name_commands::encode(w, words, desk, out),
+        b"dec" => return name_commands::decode(w, words, desk, out),
+        b"out" => return room_commands::out(w, words, desk),
+        b"pool" => return room_commands::pool(w, words, desk),
+        b"read" => return row_commands::read(w, words, desk, out),
+        b"write" => return table_commands::write(w, words, desk, out),
+        b"valid" => name_commands::is_valid(w, words)?,
+        b"ref" => name_commands::reference(w, words)?,
+        b"place" => row_commands::place(w, words)?,
+        b"col" => table_commands::columns::made(w, words)?,
+        b"check" => table_commands::columns::checked(w, words)?,
         _ => shown::say(w, b"bad")?,
     }
     Ok(desk)
 }
 
-// The rooms are those that are lent.
-fn lent<W: Write>(
+// The commands on the pool, whose rooms are those that are lent.
+fn pooled<W: Write>(
     w: &mut W,
-    s: &[u8],
-    line: usize,
+    line: Words<'_>,
     desk: Desk,
-    lengths: &mut [u32],
-    counts: &mut [u16],
-    text: &mut [u8],
+    rooms: &mut RoomsMut<'_>,
     out: &mut [u8],
 ) -> io::Result<Desk> {
-    let word = word(s, line);
-    let at = next(s, line);
-    match word {
-        LOAD | TAKE | TAKE_DEFAULT | DROP => change(w, word, s, at, desk, lengths, counts, text),
-        NEW | PAGE | COUNT | STATE | SUM | WPOOL | WDATA => {
-            pool_commands::read(w, word, s, at, desk, lengths, counts, text, out)
+    let words = line.next();
+    match command(line) {
+        word @ (b"load" | b"take" | b"take-default" | b"drop") => {
+            pool_commands::change(w, word, words, desk, rooms)
         }
-        CREATE | CREATE_DEFAULT | REMOVE | VALUE => {
-            value_commands::answer(w, word, s, at, desk, lengths, counts, text, out)
+        word @ (b"new" | b"page" | b"count" | b"state" | b"sum" | b"wpool" | b"wdata") => {
+            pool_commands::read(w, word, words, desk, rooms.view(), out)
         }
-        SHOW => value_commands::show(w, s, at, desk, lengths, counts, text, out),
-        ROWS => {
-            row_commands::rows(w, s, at, desk.pool, lengths, counts, text)?;
+        b"create" => value_commands::create(w, words, desk, rooms),
+        b"create-default" => value_commands::create_default(w, words, desk, rooms),
+        b"remove" => value_commands::remove(w, words, desk, rooms),
+        b"value" => value_commands::value(w, words, desk, rooms.view(), out),
+        b"show" => value_commands::show(w, words, desk, rooms.view(), out),
+        b"rows" => {
+            row_commands::rows(w, words, desk.pool, rooms.view())?;
             Ok(desk)
         }
-        HOLD => {
-            room_commands::hold::hold(w, s, at, lengths, counts, text)?;
+        b"hold" => {
+            room_commands::hold::hold(w, words, rooms)?;
             Ok(desk)
         }
-        HELD => {
-            room_commands::held::held(w, s, line, desk, lengths, counts, text, out)?;
+        b"held" => {
+            room_commands::held::held(w, line, desk, rooms.view(), out)?;
             Ok(desk)
         }
-        _ => plain(w, word, s, at, desk, out),
+        _ => plain(w, line, desk, out),
+    }
+}
+
+// As many places of each room as are lent.
+fn lent<'a>(desk: Desk, rooms: &'a mut RoomsMut<'_>) -> RoomsMut<'a> {
+    let RoomsMut {
+        lengths,
+        counts,
+        text,
+    } = rooms;
+    let l = places::of(lengths, desk.lengths);
+    let c = places::of(counts, desk.counts);
+    let t = places::of(text, desk.text);
+    RoomsMut {
+        lengths: &mut lengths[..l],
+        counts: &mut counts[..c],
+        text: &mut text[..t],
     }
 }
 
 pub(crate) fn answer<W: Write>(
     w: &mut W,
-    s: &[u8],
-    at: usize,
+    line: Words<'_>,
     desk: Desk,
-    lengths: &mut [u32],
-    counts: &mut [u16],
-    text: &mut [u8],
+    rooms: &mut RoomsMut<'_>,
     out: &mut [u8],
 ) -> io::Result<Desk> {
-    if word(s, at) == LEND {
-        return room_commands::lend::lend(w, s, next(s, at), desk, lengths, counts, text);
+    match command(line) {
+        b"lend" => room_commands::lend::lend(w, line.next(), desk, rooms),
+        _ => pooled(w, line, desk, &mut lent(desk, rooms), out),
     }
-    let l = places::lengths(lengths, desk.lengths);
-    let c = places::units(counts, desk.counts);
-    let t = places::bytes(text, desk.text);
-    lent(
-        w,
-        s,
-        at,
-        desk,
-        &mut lengths[..l],
-        &mut counts[..c],
-        &mut text[..t],
-        out,
-    )
 }

@@ -2,5 +2,4 @@
 mod Mapped
 pub mod Numbers
 pub mod Points
-mod Unknown
 mod UnknownTypes

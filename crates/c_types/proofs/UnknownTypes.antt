@@ -20,11 +20,15 @@ use Rattle.c_types.specs.Promises.{UnknownType}
 use Rattle.c_types.specs.Tables.{table_in_lem}
 use Rattle.cell.specs.Handed.{unknown}
 use Rattle.c_types.specs.declared.answers.ColumnParts.{ColumnParts}
-use Rattle.c_types.proofs.Unknown.{type-in}
 
 -- what stands past the columns
 abbrev past : ColumnParts
 past = builder_out_lem building
+
+type-in : (none : ColumnParts) (xs : List ColumnParts) (c : ℕ) → none.coltype ≡ 0 → get_or (map (λ (p : ColumnParts). p.coltype) xs) c 0 ≡ (get_or xs c none).coltype
+type-in none [] c e = sym e
+type-in none (x ∷ xs) zero e = refl
+type-in none (x ∷ xs) (suc c) e = type-in none xs c e
 
 -- all before it pass, it does not: so the judge stops there
 module _ {A B : Type 0} (f : ℕ → A → Answer B) (none : A) (n : ℕ) (at : Place) where

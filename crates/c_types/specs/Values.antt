@@ -1,5 +1,5 @@
 -- Values as C has them, by kind and number, and the answer that holds one with a pool.
-use Rattle.std.specs.Prelude.{ℕ, List, Bool, ℤ, pos}
+use Rattle.std.specs.Prelude.{ℕ, List, Bool, ℤ, pos, Result}
 use Rattle.common.specs.Choice.{when◌then◌else◌, ◌=?◌}
 use Rattle.common.specs.Answers.{Answer, nowhere, column}
 use Rattle.stringpool.specs.declared.pool.StringPool.{StringPool}
@@ -12,10 +12,11 @@ use Rattle.cell.specs.declared.value.Value.{Value}
 use Rattle.cell.specs.declared.value.Value.TheVariants as plain
 use Rattle.pool_values.specs.Pooled.{create_answer, remove_answer, text_answer, shown_answer}
 use Rattle.column.specs.Check.{check_answer}
-use Rattle.c_types.specs.Answers.{refusal_in, given_or}
+use Rattle.c_types.specs.Answers.{told_lem, refusal_told, given_told}
 use Rattle.c_types.specs.Columns.{column_from, on_column}
 use Rattle.c_types.specs.Pools.{no_pool_lem}
 use Rattle.c_types.specs.Unknown.{on_kind}
+use Rattle.c_types.specs.declared.answers.Refused.{Refused}
 use Rattle.c_types.specs.declared.answers.ColumnParts.{ColumnParts}
 use Rattle.c_types.specs.declared.answers.CreateAnswer.{CreateAnswer}
 
@@ -56,5 +57,8 @@ check_by p kind n text =
 abbrev pub no_value : (ℕ × ℤ) × StringPool
 no_value = ((0, pos 0), no_pool_lem)
 
+abbrev pub created_told : Result ((ℕ × ℤ) × StringPool) Refused → CreateAnswer
+created_told a = record { refused = refusal_told a; pool = (given_told no_value a).1; kind = (given_told no_value a).0.0; number = (given_told no_value a).0.1 }
+
 abbrev pub created_in : Answer ((ℕ × ℤ) × StringPool) → CreateAnswer
-created_in a = record { refused = refusal_in a; pool = (given_or no_value a).1; kind = (given_or no_value a).0.0; number = (given_or no_value a).0.1 }
+created_in a = created_told (told_lem a)

@@ -1,18 +1,17 @@
 // What the exported calls answer: the refusal, all 0 where there is none, then what was given, all 0 where the call was refused.
+// Inside, an answer is a Result with C's refusal; `from` makes C's struct of it.
 ghost use Rattle.std.specs.Prelude.{◌≡◌};
-ghost use Rattle.common.specs.Refusals.{number_of, where_of, refused_by};
-ghost use Rattle.common.specs.Answers.{nowhere};
-ghost use Rattle.common.specs.Answers as places;
-ghost use Rattle.c_types.specs.Answers.{refusal_at, no_refusal, count_in};
-ghost use Rattle.cell.specs.Handed.{unknown};
-ghost use Rattle.c_types.specs.Unknown.{refusal_number};
+ghost use Rattle.common.specs.Answers.{gives, nowhere};
+ghost use Rattle.common.specs.Refusals.{number_of, where_of, place_as, answered};
+ghost use Rattle.c_types.specs.Answers.{refusal_at, told_lem, refusal_told, given_told, count_told, flag_told};
+ghost use Rattle.c_types.specs.Unknown.{on_kind, refusal_number};
 
 use common::{Place, Refusal};
 use stringpool::StringPool;
 
 // `place` is 0 where there is none, 1 for a column, 2 for a cell.
 #[repr(C)]
-#[derive(Clone, Copy)]
+#[derive(Clone, Copy, Default)]
 pub struct Refused {
     pub number: u32,
     pub place: u32,
@@ -40,91 +39,6 @@ pub struct Name {
 pub struct Flag {
     pub refused: Refused,
     pub value: bool,
-}
-
-pub fn none() -> Refused
-    ensures { result ≡ no_refusal }
-{
-    Refused {
-        number: 0,
-        place: 0,
-        row: 0,
-        column: 0,
-    }
-}
-
-pub fn told(why: Refusal) -> Refused
-    ensures { result ≡ refusal_at (number_of why) (where_of why) }
-{
-    let number = why.number();
-    let place = why.place();
-    match place {
-        Place::Nowhere => Refused {
-            number,
-            place: 0,
-            row: 0,
-            column: 0,
-        },
-        Place::Column(column) => Refused {
-            number,
-            place: 1,
-            row: 0,
-            column,
-        },
-        Place::Cell { row, column } => Refused {
-            number,
-            place: 2,
-            row,
-            column,
-        },
-    }
-}
-
-pub fn is_unknown(kind: u8) -> bool
-    ensures { result ≡ unknown kind }
-{
-    kind > 3
-}
-
-// 16 for a value by itself, which stands in no cell.
-pub fn unknown_kind() -> Refused
-    ensures { result ≡ refusal_at 16 nowhere }
-{
-    Refused {
-        number: 16,
-        place: 0,
-        row: 0,
-        column: 0,
-    }
-}
-
-// 16 for a column of an unknown type, and for a value beside a column.
-pub fn unknown_at(column: usize) -> Refused
-    ensures { result ≡ refusal_at 16 (places.column column) }
-{
-    Refused {
-        number: 16,
-        place: 1,
-        row: 0,
-        column,
-    }
-}
-
-// A refusal on columns, where the one that it names was handed over with this type.
-pub fn told_of(why: Refusal, coltype: u32) -> Refused
-    ensures { result ≡ refusal_at (refusal_number (λ c. coltype) (number_of why) (where_of why)) (where_of why) }
-{
-    let place = why.place();
-    match place {
-        Place::Nowhere => told(why),
-        Place::Column(c) => {
-            if coltype > 3 {
-                return unknown_at(c);
-            }
-            told(why)
-        }
-        Place::Cell { row: _, column: _ } => told(why),
-    }
 }
 
 // A pool's state; its rooms are lent beside it.
@@ -162,7 +76,7 @@ pub struct CellAnswer {
 // A column, or one being made: its type (0 Int16, 1 Int32, 2 Str, 3 Binary, any other unknown) with the maximum of a Str, its
 // marks, and its range, which counts where `has_range` is set.
 #[repr(C)]
-#[derive(Clone, Copy)]
+#[derive(Clone, Copy, Default)]
 pub struct ColumnParts {
     pub coltype: u32,
     pub max_len: u32,
@@ -218,11 +132,120 @@ pub struct CreateAnswer {
     pub number: i32,
 }
 
-pub fn refused_count(why: Refusal) -> Count
-    ensures { result ≡ count_in (refused_by why) }
+// The number of a kind or a type that is unknown.
+const UNKNOWN: u32 = 16;
+
+impl Refused {
+    pub fn new(number: u32, place: Place) -> Refused
+        ensures { result ≡ refusal_at number (place_as place) }
+    {
+        match place {
+            Place::Nowhere => Refused {
+                number,
+                ..Refused::default()
+            },
+            Place::Column(column) => Refused {
+                number,
+                place: 1,
+                row: 0,
+                column,
+            },
+            Place::Cell { row, column } => Refused {
+                number,
+                place: 2,
+                row,
+                column,
+            },
+        }
+    }
+}
+
+impl From<Refusal> for Refused {
+    ghost from_gives = { λ why r. r ≡ refusal_at (number_of why) (where_of why) };
+
+    fn from(why: Refusal) -> Refused {
+        Refused::new(why.number(), why.place())
+    }
+}
+
+// A call's answer, its refusal as C has it.
+pub fn told<T>(answer: Result<T, Refusal>) -> Result<T, Refused>
+    ensures { result ≡ told_lem (answered answer) }
 {
-    Count {
-        refused: told(why),
-        value: 0,
+    answer.map_err(Refused::from)
+}
+
+// The two halves of what C is answered: the refusal, all 0 where there is none, and what was given, `nothing` where there is none.
+pub(crate) fn halves<T: Drop>(answer: Result<T, Refused>, nothing: T) -> (Refused, T)
+    ensures { result ≡ (refusal_told answer, given_told nothing answer) }
+{
+    match answer {
+        Ok(given) => (Refused::default(), given),
+        Err(refused) => (refused, nothing),
+    }
+}
+
+// 16 where a value's kind is unknown: it stands at the column that the value is beside, or nowhere.
+pub fn known(kind: u8, place: Place) -> Result<(), Refused>
+    ensures { result ≡ told_lem (on_kind (place_as place) kind (gives tt)) }
+{
+    if kind > 3 {
+        return Err(Refused::new(UNKNOWN, place));
+    }
+    Ok(())
+}
+
+// The answer to a value of this kind, handed over by itself. One of an unknown kind was judged as a Binary is, and is refused where that was
+// not.
+pub fn of_kind<T: Drop>(kind: u8, answer: Result<T, Refusal>) -> Result<T, Refused>
+    ensures { result ≡ told_lem (on_kind nowhere kind (answered answer)) }
+{
+    let given = answer?;
+    known(kind, Place::Nowhere)?;
+    Ok(given)
+}
+
+// A refusal on columns, where the one that it names was handed over with this type: it is 16 where that is unknown.
+pub fn told_of(why: Refusal, coltype: u32) -> Refused
+    ensures { result ≡ refusal_at (refusal_number (λ c. coltype) (number_of why) (where_of why)) (where_of why) }
+{
+    match why.place() {
+        Place::Column(column) if coltype > 3 => Refused::new(UNKNOWN, Place::Column(column)),
+        _ => Refused::from(why),
+    }
+}
+
+impl From<Result<(), Refused>> for Refused {
+    ghost from_gives = { λ a r. r ≡ refusal_told a };
+
+    fn from(answer: Result<(), Refused>) -> Refused {
+        let (refused, _) = halves(answer, ());
+        refused
+    }
+}
+
+impl From<Result<usize, Refused>> for Count {
+    ghost from_gives = { λ a c. c ≡ count_told a };
+
+    fn from(answer: Result<usize, Refused>) -> Count {
+        let (refused, value) = halves(answer, 0);
+        Count { refused, value }
+    }
+}
+
+impl From<Result<u16, Refused>> for Count {
+    ghost from_gives = { λ a c. c ≡ count_told a };
+
+    fn from(answer: Result<u16, Refused>) -> Count {
+        Count::from(answer.map(usize::from))
+    }
+}
+
+impl From<Result<bool, Refused>> for Flag {
+    ghost from_gives = { λ a c. c ≡ flag_told a };
+
+    fn from(answer: Result<bool, Refused>) -> Flag {
+        let (refused, value) = halves(answer, false);
+        Flag { refused, value }
     }
 }

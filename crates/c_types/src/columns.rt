@@ -1,81 +1,62 @@
 // Columns, and the answers of the calls on them.
 ghost use Rattle.std.specs.Prelude.{◌≡◌};
-ghost use Rattle.column.specs.Columns.{column_made_as, bitfield_as};
-ghost use Rattle.column.specs.Check.{validity_as};
-ghost use Rattle.c_types.specs.Answers.{flag_in};
-ghost use Rattle.c_types.specs.Pools.{reference_in};
 ghost use Rattle.common.specs.Answers as places;
-ghost use Rattle.c_types.specs.Columns.{coltype_in, range_in_lem, builder_in_lem, column_from, on_column, type_number_lem, type_maximum_lem, range_of, parts_of, builder_out_lem, column_in_lem};
+ghost use Rattle.common.specs.Refusals.{answered};
+ghost use Rattle.c_types.specs.Answers.{told_lem};
+ghost use Rattle.c_types.specs.Columns.{coltype_in, range_in_lem, builder_in_lem, column_from, on_column, type_number_lem, type_maximum_lem, parts_of, builder_out_lem, column_told};
 ghost use Rattle.c_types.specs.Unknown.{on_kind};
 
-use crate::answers::{
-    ColumnAnswer, ColumnParts, Flag, Reference, is_unknown, none, told, told_of, unknown_at,
-};
-use column::{Bitfield, Column, ColumnBuilder, ColumnMade, ColumnType, Validity, ValueRange};
+use crate::answers::{ColumnAnswer, ColumnParts, Refused, halves, known, told_of};
+use column::{Column, ColumnBuilder, ColumnType, ValueRange};
 use common::sizes::MAX_STRING;
-
-// The range of a column.
-#[derive(Clone, Copy)]
-struct RangeParts {
-    has_range: bool,
-    min: i32,
-    max: i32,
-}
+use common::{Place, Refusal};
 
 // An unknown type is a Str beyond its maximum, a bad column to every call.
 fn type_in(parts: ColumnParts) -> ColumnType
     ensures { result ≡ coltype_in parts }
 {
-    if parts.coltype > 3 {
-        return ColumnType::Str(MAX_STRING + 1);
+    match parts.coltype {
+        0 => ColumnType::Int16,
+        1 => ColumnType::Int32,
+        2 => ColumnType::Str(parts.max_len),
+        3 => ColumnType::Binary,
+        _ => ColumnType::Str(MAX_STRING + 1),
     }
-    if parts.coltype == 0 {
-        return ColumnType::Int16;
-    }
-    if parts.coltype == 1 {
-        return ColumnType::Int32;
-    }
-    if parts.coltype == 2 {
-        return ColumnType::Str(parts.max_len);
-    }
-    ColumnType::Binary
 }
 
-fn range_in(parts: ColumnParts) -> ValueRange
+fn range_in(parts: ColumnParts) -> Option<ValueRange>
     ensures { result ≡ range_in_lem parts }
 {
-    if parts.has_range {
-        return ValueRange::Within {
-            min: parts.min,
-            max: parts.max,
-        };
-    }
-    ValueRange::Any
+    parts.has_range.then_some(ValueRange {
+        min: parts.min,
+        max: parts.max,
+    })
 }
 
-pub fn builder_in(parts: ColumnParts) -> ColumnBuilder
-    ensures { result ≡ builder_in_lem parts }
-{
-    let value_range = range_in(parts);
-    ColumnBuilder {
-        is_localizable: parts.is_localizable,
-        is_nullable: parts.is_nullable,
-        is_primary_key: parts.is_primary_key,
-        value_range,
+impl From<ColumnParts> for ColumnBuilder {
+    ghost from_gives = { λ parts b. b ≡ builder_in_lem parts };
+
+    fn from(parts: ColumnParts) -> ColumnBuilder {
+        ColumnBuilder {
+            is_localizable: parts.is_localizable,
+            is_nullable: parts.is_nullable,
+            is_primary_key: parts.is_primary_key,
+            value_range: range_in(parts),
+        }
     }
 }
 
-pub fn column_in(parts: ColumnParts) -> Column
-    ensures { result ≡ column_from parts }
-{
-    let coltype = type_in(parts);
-    let value_range = range_in(parts);
-    Column {
-        coltype,
-        is_localizable: parts.is_localizable,
-        is_nullable: parts.is_nullable,
-        is_primary_key: parts.is_primary_key,
-        value_range,
+impl From<ColumnParts> for Column {
+    ghost from_gives = { λ parts x. x ≡ column_from parts };
+
+    fn from(parts: ColumnParts) -> Column {
+        Column {
+            coltype: type_in(parts),
+            is_localizable: parts.is_localizable,
+            is_nullable: parts.is_nullable,
+            is_primary_key: parts.is_primary_key,
+            value_range: range_in(parts),
+        }
     }
 }
 
@@ -94,111 +75,63 @@ fn type_maximum(coltype: ColumnType) -> u32
     ensures { result ≡ type_maximum_lem coltype }
 {
     match coltype {
-        ColumnType::Int16 => 0,
-        ColumnType::Int32 => 0,
         ColumnType::Str(max) => max,
-        ColumnType::Binary => 0,
+        _ => 0,
     }
 }
 
-// Whether a range is given, and its ends, 0 where it is not.
-fn range_of(value_range: ValueRange) -> RangeParts
-    ensures { result ≡ range_of value_range }
-{
-    match value_range {
-        ValueRange::Any => RangeParts {
-            has_range: false,
-            min: 0,
-            max: 0,
-        },
-        ValueRange::Within { min, max } => RangeParts {
-            has_range: true,
-            min,
-            max,
-        },
-    }
-}
+impl From<Column> for ColumnParts {
+    ghost from_gives = { λ x parts. parts ≡ parts_of x };
 
-pub fn parts_of(column: Column) -> ColumnParts
-    ensures { result ≡ parts_of column }
-{
-    let coltype = column.coltype;
-    let value_range = column.value_range;
-    let range = range_of(value_range);
-    ColumnParts {
-        coltype: type_number(coltype),
-        max_len: type_maximum(coltype),
-        is_localizable: column.is_localizable,
-        is_nullable: column.is_nullable,
-        is_primary_key: column.is_primary_key,
-        has_range: range.has_range,
-        min: range.min,
-        max: range.max,
+    fn from(column: Column) -> ColumnParts {
+        // Its ends are 0 where no range is given.
+        let range = column.value_range.unwrap_or(ValueRange { min: 0, max: 0 });
+        ColumnParts {
+            coltype: type_number(column.coltype),
+            max_len: type_maximum(column.coltype),
+            is_localizable: column.is_localizable,
+            is_nullable: column.is_nullable,
+            is_primary_key: column.is_primary_key,
+            has_range: column.value_range.is_some(),
+            min: range.min,
+            max: range.max,
+        }
     }
 }
 
 // A builder as C has it: the column of its marks and range, whose type does not count.
-pub fn builder_out(builder: ColumnBuilder) -> ColumnParts
-    ensures { result ≡ builder_out_lem builder }
-{
-    parts_of(builder.int16())
-}
+impl From<ColumnBuilder> for ColumnParts {
+    ghost from_gives = { λ b parts. parts ≡ builder_out_lem b };
 
-pub fn from_made(answer: ColumnMade) -> ColumnAnswer
-    ensures { result ≡ column_in_lem (column_made_as answer) }
-{
-    match answer {
-        ColumnMade::Made(column) => ColumnAnswer {
-            refused: none(),
-            column: parts_of(column),
-        },
-        ColumnMade::Refused(why) => ColumnAnswer {
-            refused: told(why),
-            column: builder_out(Column::build()),
-        },
+    fn from(builder: ColumnBuilder) -> ColumnParts {
+        ColumnParts::from(builder.int16())
     }
 }
 
-pub fn from_bits(answer: Bitfield, column: ColumnParts) -> Reference
-    ensures { result ≡ reference_in (on_column column (bitfield_as answer)) }
-{
-    match answer {
-        Bitfield::Bits(value) => Reference {
-            refused: none(),
-            value,
-        },
-        Bitfield::Refused(why) => Reference {
-            refused: told_of(why, column.coltype),
-            value: 0,
-        },
+impl From<Result<Column, Refused>> for ColumnAnswer {
+    ghost from_gives = { λ a c. c ≡ column_told a };
+
+    fn from(answer: Result<Column, Refused>) -> ColumnAnswer {
+        let (refused, column) = halves(answer, Column::build().int16());
+        ColumnAnswer {
+            refused,
+            column: column.into(),
+        }
     }
 }
 
-// Whether a value of a known kind suits its column.
-fn checked(value: bool, kind: u8) -> Flag
-    ensures { result ≡ flag_in (on_kind (places.column 0) kind (places.gives value)) }
+// What a call on this column answers: a refusal at a column is 16 where its type is unknown.
+pub fn on_column<T>(column: ColumnParts, answer: Result<T, Refusal>) -> Result<T, Refused>
+    ensures { result ≡ told_lem (on_column column (answered answer)) }
 {
-    if is_unknown(kind) {
-        return Flag {
-            refused: unknown_at(0),
-            value: false,
-        };
-    }
-    Flag {
-        refused: none(),
-        value,
-    }
+    answer.map_err(|why| told_of(why, column.coltype))
 }
 
-pub fn from_check(answer: Validity, column: ColumnParts, kind: u8) -> Flag
-    ensures { result ≡ flag_in (on_kind (places.column 0) kind (on_column column (validity_as answer))) }
+// Whether a value of this kind suits its column.
+pub fn suits(column: ColumnParts, kind: u8, valid: Result<bool, Refusal>) -> Result<bool, Refused>
+    ensures { result ≡ told_lem (on_kind (places.column 0) kind (on_column column (answered valid))) }
 {
-    match answer {
-        Validity::Valid => checked(true, kind),
-        Validity::Invalid => checked(false, kind),
-        Validity::Refused(why) => Flag {
-            refused: told_of(why, column.coltype),
-            value: false,
-        },
-    }
+    let suits = on_column(column, valid)?;
+    known(kind, Place::Column(0))?;
+    Ok(suits)
 }

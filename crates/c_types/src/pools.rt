@@ -1,109 +1,59 @@
 // The answers of the calls on pools.
 ghost use Rattle.std.specs.Prelude.{◌≡◌};
-ghost use Rattle.common.specs.Refs.{made_as};
-ghost use Rattle.stringpool.specs.Show.{refcount_as, showable_as};
-ghost use Rattle.stringpool.specs.Take.{taken_as};
-ghost use Rattle.stringpool.specs.Pool.{pooled_as};
-ghost use Rattle.stringpool.specs.Write.{written_as};
-ghost use Rattle.c_types.specs.Answers.{refusal_in, count_in};
-ghost use Rattle.c_types.specs.Pools.{no_pool_lem, pool_in, taken_in, reference_in};
+ghost use Rattle.c_types.specs.Answers.{told_as};
+ghost use Rattle.common.specs.declared.string_ref.StringRef.{StringRef};
+ghost use Rattle.stringpool.specs.Take.{taken_of};
+ghost use Rattle.c_types.specs.Pools.{pool_told, taken_told, reference_told};
 
-use crate::answers::{
-    Count, PoolAnswer, Reference, Refused, TakeAnswer, none, refused_count, told,
+use crate::answers::{PoolAnswer, Reference, Refused, TakeAnswer, halves};
+use stringpool::{StringPool, StringRef, Taken};
+
+// What stands for a pool where none is given.
+pub(crate) const NO_POOL: StringPool = StringPool {
+    num_strings: 0,
+    codepage: 0,
+    long_string_refs: false,
 };
-use stringpool::{Counted, Made, Pooled, Showable, StringPool, Taken, Written};
 
-// A refusal, and no pool beside it.
-pub fn no_pool(refused: Refused) -> PoolAnswer
-    ensures { result ≡ record { refused = refused; pool = no_pool_lem } }
-{
-    PoolAnswer {
-        refused,
-        pool: StringPool {
-            num_strings: 0,
-            codepage: 0,
-            long_string_refs: false,
-        },
+impl From<Result<StringPool, Refused>> for PoolAnswer {
+    ghost from_gives = { λ a c. c ≡ pool_told a };
+
+    fn from(answer: Result<StringPool, Refused>) -> PoolAnswer {
+        let (refused, pool) = halves(answer, NO_POOL);
+        PoolAnswer { refused, pool }
     }
 }
 
-pub fn from_pooled(answer: Pooled) -> PoolAnswer
-    ensures { result ≡ pool_in (pooled_as answer) }
-{
-    match answer {
-        Pooled::Is(pool) => PoolAnswer {
-            refused: none(),
-            pool,
-        },
-        Pooled::Refused(why) => no_pool(told(why)),
+impl From<Result<Taken, Refused>> for TakeAnswer {
+    ghost from_gives = { λ a c. c ≡ taken_told (told_as taken_of a) };
+
+    fn from(answer: Result<Taken, Refused>) -> TakeAnswer {
+        let nothing = Taken {
+            reference: StringRef(0),
+            pool: NO_POOL,
+        };
+        let (refused, taken) = halves(answer, nothing);
+        TakeAnswer {
+            refused,
+            pool: taken.pool,
+            reference: taken.reference.0,
+        }
     }
 }
 
-pub fn from_taken(answer: Taken) -> TakeAnswer
-    ensures { result ≡ taken_in (taken_as answer) }
-{
-    match answer {
-        Taken::Ref(reference, pool) => TakeAnswer {
-            refused: none(),
-            pool,
-            reference: reference.0,
-        },
-        Taken::Refused(why) => TakeAnswer {
-            refused: told(why),
-            pool: StringPool {
-                num_strings: 0,
-                codepage: 0,
-                long_string_refs: false,
-            },
-            reference: 0,
-        },
+impl From<Result<i32, Refused>> for Reference {
+    ghost from_gives = { λ a c. c ≡ reference_told a };
+
+    fn from(answer: Result<i32, Refused>) -> Reference {
+        let (refused, value) = halves(answer, 0);
+        Reference { refused, value }
     }
 }
 
-pub fn from_made(answer: Made) -> Reference
-    ensures { result ≡ reference_in (made_as answer) }
-{
-    match answer {
-        Made::Ref(reference) => Reference {
-            refused: none(),
-            value: reference.0,
-        },
-        Made::Refused(why) => Reference {
-            refused: told(why),
-            value: 0,
-        },
-    }
-}
+impl From<Result<StringRef, Refused>> for Reference {
+    ghost from_gives = { λ a c. c ≡ reference_told (told_as (λ (r : StringRef). r.0) a) };
 
-pub fn from_counted(answer: Counted) -> Count
-    ensures { result ≡ count_in (refcount_as answer) }
-{
-    match answer {
-        Counted::Is(count) => Count {
-            refused: none(),
-            value: count as usize,
-        },
-        Counted::Refused(why) => refused_count(why),
-    }
-}
-
-pub fn from_written(answer: Written) -> Count
-    ensures { result ≡ count_in (written_as answer) }
-{
-    match answer {
-        Written::Bytes(value) => Count {
-            refused: none(),
-            value,
-        },
-        Written::Refused(why) => refused_count(why),
-    }
-}
-
-pub fn from_showable(answer: Showable) -> Refused
-    ensures { result ≡ refusal_in (showable_as answer) }
-{
-    match answer {
-        Showable::Yes => none(),
-        Showable::Refused(why) => told(why),
+    fn from(answer: Result<StringRef, Refused>) -> Reference {
+        Reference::from(answer.map(|reference| reference.0))
     }
 }

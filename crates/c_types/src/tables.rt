@@ -1,54 +1,41 @@
 // A layout, and the answers of the calls on tables.
-ghost use Rattle.std.specs.Prelude.{◌≡◌, pos, false};
-ghost use Rattle.common.specs.Refusals.{number_of, where_of};
-ghost use Rattle.table.specs.Layout.{laid_as, table_made_as};
-ghost use Rattle.table.specs.Reading.{counted_as, cell_read_as};
-ghost use Rattle.rows.specs.Next.{step_as};
-ghost use Rattle.c_types.specs.Answers.{count_in, refusal_at, refusal_in, answered_as};
-ghost use Rattle.c_types.specs.Tables.{table_in_lem, table_out_lem, type_handed, on_table, laid_in, new_in, cell_in, step_in};
+ghost use Rattle.std.specs.Prelude.{◌≡◌};
+ghost use Rattle.common.specs.Refusals.{number_of, where_of, answered};
+ghost use Rattle.cell.specs.Kinds.{cell_as};
+ghost use Rattle.rows.specs.Next.{another_as};
+ghost use Rattle.c_types.specs.Answers.{refusal_at, told_lem, told_as};
+ghost use Rattle.c_types.specs.Tables.{table_in_lem, table_out_lem, type_handed, on_table, laid_told, new_in, cell_told, step_told};
 ghost use Rattle.c_types.specs.Unknown.{refusal_number};
 
 use crate::answers::{
-    CellAnswer, ColumnParts, Count, Refused, StepAnswer, TableAnswer, TableParts, none, told,
-    told_of,
+    CellAnswer, ColumnParts, Refused, StepAnswer, TableAnswer, TableParts, halves, told_of,
 };
-use crate::columns::{builder_out, column_in, parts_of};
+use cell::ValueRef;
 use column::Column;
 use common::{Place, Refusal};
-use rows::{NextCell, Step};
-use table::{CellRead, Counted, Laid, Table, TableMade};
+use table::Table;
 
-pub fn table_in(table: TableParts) -> Table
-    ensures { result ≡ table_in_lem table }
-{
-    let parts = table.columns;
-    let mut columns = [Column::build().int16(); 64];
-    let mut c = 0;
-    while c < 64 {
-        columns[c] = column_in(parts[c]);
-        c += 1;
-    }
-    Table {
-        columns,
-        count: table.count,
-        long_string_refs: table.long_string_refs,
+impl From<TableParts> for Table {
+    ghost from_gives = { λ parts t. t ≡ table_in_lem parts };
+
+    fn from(parts: TableParts) -> Table {
+        Table {
+            columns: parts.columns.map(Column::from),
+            count: parts.count,
+            long_string_refs: parts.long_string_refs,
+        }
     }
 }
 
-fn table_out(table: Table) -> TableParts
-    ensures { result ≡ table_out_lem table }
-{
-    let columns = table.columns;
-    let mut parts = [builder_out(Column::build()); 64];
-    let mut c = 0;
-    while c < 64 {
-        parts[c] = parts_of(columns[c]);
-        c += 1;
-    }
-    TableParts {
-        columns: parts,
-        count: table.count,
-        long_string_refs: table.long_string_refs,
+impl From<Table> for TableParts {
+    ghost from_gives = { λ t parts. parts ≡ table_out_lem t };
+
+    fn from(table: Table) -> TableParts {
+        TableParts {
+            columns: table.columns.map(ColumnParts::from),
+            count: table.count,
+            long_string_refs: table.long_string_refs,
+        }
     }
 }
 
@@ -58,122 +45,71 @@ fn type_at(table: TableParts, c: usize) -> u32
     if c >= 64 {
         return 0;
     }
-    let column = table.columns[c];
-    column.coltype
+    table.columns[c].coltype
 }
 
 // A refusal on a table: at a column of an unknown type it is 16.
 fn told_in(why: Refusal, table: TableParts) -> Refused
     ensures { result ≡ refusal_at (refusal_number (type_handed table) (number_of why) (where_of why)) (where_of why) }
 {
-    let place = why.place();
-    match place {
-        Place::Nowhere => told(why),
+    match why.place() {
         Place::Column(c) => told_of(why, type_at(table, c)),
-        Place::Cell { row: _, column: _ } => told(why),
+        _ => Refused::from(why),
     }
 }
 
-fn refusal_of(answer: Laid) -> Refused
-    ensures { result ≡ refusal_in (laid_as answer) }
+// What a call on this table answers.
+pub fn on_table<T>(table: TableParts, answer: Result<T, Refusal>) -> Result<T, Refused>
+    ensures { result ≡ told_lem (on_table table (answered answer)) }
 {
-    match answer {
-        Laid::Made => none(),
-        Laid::Refused(why) => told(why),
-    }
+    answer.map_err(|why| told_in(why, table))
 }
 
-pub fn from_laid(made: TableMade) -> TableAnswer
-    ensures { result ≡ laid_in (table_made_as made) }
+// A layout, and one of no columns where it was refused.
+pub fn laid(answer: Result<TableParts, Refused>, long_string_refs: bool) -> TableAnswer
+    ensures { result ≡ laid_told long_string_refs answer }
 {
-    let answer = made.answer;
-    let refused = refusal_of(answer);
-    let table = table_out(made.table);
+    let nothing = TableParts {
+        columns: [ColumnParts::default(); 64],
+        count: 0,
+        long_string_refs,
+    };
+    let (refused, table) = halves(answer, nothing);
     TableAnswer { refused, table }
 }
 
-// The layout that was handed over, or none where it is refused.
-pub fn from_new(made: TableMade, table: TableParts) -> TableAnswer
-    ensures { result ≡ new_in table (table_made_as made) }
+// The layout that was handed over, judged.
+pub fn handed_back(judged: Result<Table, Refusal>, table: TableParts) -> TableAnswer
+    ensures { result ≡ new_in table (answered judged) }
 {
-    let answer = made.answer;
-    match answer {
-        Laid::Made => TableAnswer {
-            refused: none(),
-            table,
-        },
-        Laid::Refused(why) => TableAnswer {
-            refused: told_in(why, table),
-            table: table_out(made.table),
-        },
-    }
+    let answer = on_table(table, judged.map(|_| table));
+    laid(answer, table.long_string_refs)
 }
 
-pub fn from_rows(answer: Counted, table: TableParts) -> Count
-    ensures { result ≡ count_in (on_table table (counted_as answer)) }
-{
-    match answer {
-        Counted::Count(value) => Count {
-            refused: none(),
-            value,
-        },
-        Counted::Refused(why) => Count {
-            refused: told_in(why, table),
-            value: 0,
-        },
-    }
-}
+impl From<Result<ValueRef, Refused>> for CellAnswer {
+    ghost from_gives = { λ a c. c ≡ cell_told (told_as cell_as a) };
 
-// A refusal, and no value beside it.
-pub fn no_value(refused: Refused) -> CellAnswer
-    ensures { result ≡ record { refused = refused; kind = 0; number = pos 0 } }
-{
-    CellAnswer {
-        refused,
-        kind: 0,
-        number: 0,
-    }
-}
-
-pub fn from_cell(answer: CellRead, table: TableParts) -> CellAnswer
-    ensures { result ≡ cell_in (on_table table (cell_read_as answer)) }
-{
-    match answer {
-        CellRead::Value(value) => CellAnswer {
-            refused: none(),
+    fn from(answer: Result<ValueRef, Refused>) -> CellAnswer {
+        let (refused, value) = halves(answer, ValueRef::Null);
+        CellAnswer {
+            refused,
             kind: value.kind(),
             number: value.number(),
-        },
-        CellRead::Refused(why) => no_value(told_in(why, table)),
+        }
     }
 }
 
-fn no_cell(refused: Refused, at: usize) -> StepAnswer
-    ensures { result ≡ record { refused = refused; at = at; found = false; kind = 0; number = pos 0 } }
+// A step of the row reader, and the place after it.
+pub fn stepped(cell: Result<Option<ValueRef>, Refused>, at: usize) -> StepAnswer
+    ensures { result ≡ step_told (told_as another_as cell) at }
 {
+    let (refused, cell) = halves(cell, None);
+    let value = cell.unwrap_or(ValueRef::Null);
     StepAnswer {
         refused,
         at,
-        found: false,
-        kind: 0,
-        number: 0,
-    }
-}
-
-pub fn from_step(step: Step, table: TableParts) -> StepAnswer
-    ensures { result ≡ step_in (answered_as (on_table table) (step_as step)) }
-{
-    let cell = step.cell;
-    let at = step.at;
-    match cell {
-        NextCell::Cell(value) => StepAnswer {
-            refused: none(),
-            at,
-            found: true,
-            kind: value.kind(),
-            number: value.number(),
-        },
-        NextCell::End => no_cell(none(), at),
-        NextCell::Refused(why) => no_cell(told_in(why, table), at),
+        found: cell.is_some(),
+        kind: value.kind(),
+        number: value.number(),
     }
 }

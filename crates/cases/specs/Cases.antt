@@ -2,7 +2,7 @@
 use Rattle.std.specs.Prelude.{ℕ, ◌≡◌, true, false, List, [], ◌∷◌, map, ℤ, pos, negsuc}
 use Rattle.common.specs.Answers.{gives, column}
 use Rattle.cell.specs.declared.form.ColumnType.TheVariants.{Str, Binary}
-use Rattle.cases.specs.Shown.{Asked, name, written, bits, loaded, taken, Shown, units, bytes, type, pool, answers, refuses, answered}
+use Rattle.cases.specs.Shown.{Asked, name, written, bits, loaded, taken, Shown, units, bytes, type, pool, answers, refuses, answer_shown}
 
 pub record Case : Type 0 where
   pub asked : Asked
@@ -80,4 +80,4 @@ cases = a ∷ b ∷ c ∷ d ∷ e ∷ f ∷ g ∷ h ∷ i ∷ j ∷ k ∷ l ∷ 
 
 -- each is answered as document 01 says
 abbrev pub Cases : Type 0
-Cases = map (λ (x : Case). answered x.asked) cases ≡ map (λ (x : Case). x.said) cases
+Cases = map (λ (x : Case). answer_shown x.asked) cases ≡ map (λ (x : Case). x.said) cases

@@ -13,7 +13,7 @@ use Rattle.stringpool.specs.Take.{first_free_or_equal, take_outcome}
 use Rattle.cell.specs.declared.form.ColumnType.{ColumnType}
 use Rattle.column.specs.declared.column.Column.{Column}
 use Rattle.column.specs.Columns.{building, bits_column}
-use Rattle.table.specs.Layout.{bitfields_outcome}
+use Rattle.table.specs.Layout.{bitfields_outcome, layout_or_none}
 use Rattle.table.specs.Writing.{Cells, write_rows_outcome}
 
 pub data Asked : Type 0 where
@@ -64,7 +64,7 @@ take_on text (refused n at, w) = (refused n at, w)
 
 abbrev pub called : (asked : Asked) → Outcome asked
 called (name letters table) = encode_outcome letters table output
-called (written fields rows cells) = write_rows_outcome (bitfields_outcome fields false).1 rows cells output
+called (written fields rows cells) = write_rows_outcome (layout_or_none false (bitfields_outcome fields false)) rows cells output
 called (bits n) = bits_column building 0 n
 called (loaded stream texts) = load_outcome stream texts room
 called (taken stream texts text) = take_on text (load_outcome stream texts room)
@@ -102,5 +102,5 @@ shown_of_lem (bits n) x = type_shown x
 shown_of_lem (loaded stream texts) x = pool_shown x
 shown_of_lem (taken stream texts text) x = taken_shown x
 
-abbrev pub answered : Asked → Shown
-answered asked = shown_of_lem asked (called asked)
+abbrev pub answer_shown : Asked → Shown
+answer_shown asked = shown_of_lem asked (called asked)

@@ -7,5 +7,5 @@ mod pools;
 mod tables;
 
 pub use crate::names::{Units, case_a, case_b, case_c, case_d};
-pub use crate::pools::{Pool, Take, case_k, case_l, loaded, taken_on};
+pub use crate::pools::{Left, Pool, Take, case_k, case_l, loaded, taken_on};
 pub use crate::tables::{Bytes, case_e, case_f, case_g, case_h, case_i, case_j, case_m};

@@ -1,14 +1,11 @@
 -- Forms and the types they stand for; cells that can be stored.
 use mathlib.Core.Path.{◌≡◌, refl}
 use mathlib.Core.Bool.{Bool, true, false, ◌||◌}
-use Prim.Native.Nat.{ℕ, ◌<◌, ◌≤◌}
-use native.Mathlib.Omega.{arith}
-use borrow.Author.Tests.{lt-ltb, le-ltb, ltb-false}
-use lib.Dec.{T, lit≤}
+use Prim.Native.Nat.{ℕ, ◌≤◌}
+use borrow.Author.Tests.{le-ltb}
+use lib.Dec.{lit≤}
 use lib.IntN.{ℤ, pos, negsuc, nat_abs}
-use lib.Signed.{lt_z, mag, non_neg}
-use mir.Syntax.{w32}
-use mir.Val.{Fits}
+use lib.Signed.{lt_z}
 use Rattle.common.specs.Choice.{when◌then◌else◌}
 use Rattle.common.specs.Answers.{Place, nowhere, gives, refused}
 use Rattle.common.proofs.Bools.{clash}
@@ -76,20 +73,6 @@ good z w e = go (lt_z z (pos 1)) (lt_z (pos 16777215) z) refl refl e
     go false false p q r = record { same = cc; low = p; high = q }
 
 module _ (long : Bool) (at : Place) (z : ℤ) where
-  pub reference-refused : (n : ℕ) (p : Place) → refused n p ≡ reference nowhere z → refused 8 at ≡ reference_number long at z
-  reference-refused n p e = go (lt_z z (pos 1) || lt_z (pos 16777215) z) refl e
-    where
-      go : (a : Bool) → (lt_z z (pos 1) || lt_z (pos 16777215) z) ≡ a → refused n p ≡ (when a then refused 8 nowhere else gives z) → refused 8 at ≡ reference_number long at z
-      go true q r = rw q
-      go false q r = clash (cc)
-
-  pub reference-long : lt_z z (pos 1) ≡ false → lt_z (pos 16777215) z ≡ false → long ≡ false → 65535 < nat_abs z → refused 18 at ≡ reference_number long at z
-  reference-long l h s m = go z l h m
-    where
-      go : (y : ℤ) → lt_z y (pos 1) ≡ false → lt_z (pos 16777215) y ≡ false → 65535 < nat_abs y → refused 18 at ≡ reference_number long at y
-      go (pos n) l' h' m' = rw (l', h', s, lt-ltb 65535 n m')
-      go (negsuc n) l' h' m' = clash (cc)
-
   pub reference-any : lt_z z (pos 1) ≡ false → lt_z (pos 16777215) z ≡ false → long ≡ true → gives (nat_abs z) ≡ reference_number long at z
   reference-any l h s = rw (l, h, s)
 
@@ -100,12 +83,3 @@ module _ (long : Bool) (at : Place) (z : ℤ) where
       go (pos n) l' h' m' true = rw (l', h')
       go (pos n) l' h' m' false = rw (l', h', le-ltb 65535 n m')
       go (negsuc n) l' h' m' b = clash (cc)
-
--- the code's test n < 0
-pub from_zero : (z : ℤ) → lt_z z (pos 0) ≡ false → (T (non_neg z)) × (nat_abs z ≡ mag z)
-from_zero (pos n) e = (tt, refl)
-from_zero (negsuc n) e = clash (cc)
-
-pub good_bits : (z : ℤ) → lt_z z (pos 1) ≡ false → lt_z (pos 16777215) z ≡ false → T (non_neg z) × Fits w32 (nat_abs z)
-good_bits (pos n) l h = (tt, record { fits = omega (arith, ltb-false 16777215 n h) })
-good_bits (negsuc n) l h = clash (cc)

@@ -1,14 +1,13 @@
 -- A cell by its cases, and by its kind and number.
 use mathlib.Core.Path.{◌≡◌, refl}
-use mathlib.Core.Bool.{Bool}
 use Prim.Native.Nat.{ℕ}
 use Rattle.common.specs.Choice.{when◌then◌else◌, ◌=?◌}
 use Rattle.common.specs.Answers.{Place, gives, refused}
 use Rattle.cell.specs.declared.value.Cell.{Cell}
 use Rattle.cell.specs.declared.value.Cell.TheVariants.{Null, Int, Str, Binary, Unknown}
 use Rattle.cell.specs.Handed.{handed_kind, handed_number}
-use Rattle.cell.specs.Cells.{integer, reference_number}
-use Rattle.cell.specs.inner.Forms.{integer_stored_lem, reference_stored_lem, binary_stored_lem}
+use Rattle.cell.specs.Cells.{integer}
+use Rattle.cell.specs.inner.Forms.{integer_stored_lem, binary_stored_lem}
 
 pub integer-by_kind : (half : ℕ) (at : Place) (v : Cell) → integer_stored_lem half at v
     ≡ (when handed_kind v =? 0 then gives 0 else when handed_kind v =? 1 then integer half at (handed_number v) else refused 16 at)
@@ -17,14 +16,6 @@ integer-by_kind half at (Int n) = refl
 integer-by_kind half at (Str n) = refl
 integer-by_kind half at Binary = refl
 integer-by_kind half at Unknown = refl
-
-pub reference-by_kind : (long : Bool) (at : Place) (v : Cell) → reference_stored_lem long at v
-    ≡ (when handed_kind v =? 0 then gives 0 else when handed_kind v =? 2 then reference_number long at (handed_number v) else refused 16 at)
-reference-by_kind long at Null = refl
-reference-by_kind long at (Int n) = refl
-reference-by_kind long at (Str n) = refl
-reference-by_kind long at Binary = refl
-reference-by_kind long at Unknown = refl
 
 pub binary_by_kind : (at : Place) (v : Cell) → binary_stored_lem at v ≡ (when handed_kind v =? 0 then gives 0 else when handed_kind v =? 3 then gives 1 else refused 16 at)
 binary_by_kind at Null = refl

@@ -1,6 +1,6 @@
 -- Signed sums by way of the unsigned: z + h is the natural number `biased h z`, and u - h is `unbiased h u`.
 -- Every law is over the half h.
-use mathlib.Core.Path.{◌≡◌, refl, ap, ◌∙◌}
+use mathlib.Core.Path.{◌≡◌, refl, ap}
 use Prim.Native.Nat.{ℕ, zero, suc, ◌+◌, ◌-◌, ◌<◌, ◌≤◌, ◌^◌}
 use native.Mathlib.Omega.{arith}
 use native.Mathlib.Nat.{sub-zero, add-zero}
@@ -34,9 +34,6 @@ biased-lt h (negsuc n) m = omega arith
 pub widened : (z : ℤ) → SFits w32 z → to_z w64 (of_z w64 (to_z w32 (of_z w32 z))) ≡ z
 widened z f = rw (to_z-of_z {w = w32} {z = z} f) (to_z-of_z {w = w64} {z = z} (sfits_widen {w = w32} {w' = w64} tt f))
 
-pub widens : (z : ℤ) → SFits w32 z → SFits w64 (to_z w32 (of_z w32 z))
-widens z f = rw (to_z-of_z {w = w32} {z = z} f) (sfits_widen {w = w32} {w' = w64} tt f)
-
 -- the sum `n as i64 + h` of the code, for an i32 n with n + h not negative
 module _ (h : ℕ) (z : ℤ) (f : SFits w32 z) (m : mag z < h) (small : h ≤ 2 ^ 32) where
   summed : to_z w64 (of_z w64 (to_z w32 (of_z w32 z))) +ℤ pos h ≡ pos (biased h z)
@@ -57,27 +54,9 @@ pub sub_is : (u h : ℕ) → pos u -ℤ pos h ≡ unbiased h u
 sub_is u zero = rw (sub-pos u zero (omega arith), sub-zero, add-zero)
 sub_is u (suc h) = refl
 
-pub mag_unbiased : (u h : ℕ) → u < h + h → mag (unbiased h u) < h
-mag_unbiased u h m =
-    ⊎_elim (λ l. rw (sub-neg u h l) (omega arith)) (λ l. rw (sub-pos u h l) (omega arith)) (lt_or_le u h)
-
 pub near_unbiased : (u h : ℕ) → 0 < u → u < h + h → nat_abs (unbiased h u) < h
 near_unbiased u h p m =
     ⊎_elim (λ l. rw (sub-neg u h l) (omega arith)) (λ l. rw (sub-pos u h l) (omega arith)) (lt_or_le u h)
-
--- the difference `u as i64 - h as i64` of the code
-module _ (u h : ℕ) (small : h ≤ 2 ^ 31) (m : u < h + h) where
-  difference : to_z w64 u -ℤ to_z w64 h ≡ unbiased h u
-  difference = rw (to_z_pos w64 {n = u} (omega arith), to_z_pos w64 {n = h} (omega arith)) (sub_is u h)
-
-  pub sub-fits : SFits w64 (to_z w64 u -ℤ to_z w64 h)
-  sub-fits = rw difference (record { sfits = omega (arith, mag_unbiased u h m) })
-
-  pub sub_back : to_z w64 (of_z w64 (to_z w64 u -ℤ to_z w64 h)) ≡ unbiased h u
-  sub_back = rw difference (to_z-of_z {w = w64} {z = unbiased h u} (record { sfits = omega (arith, mag_unbiased u h m) }))
-
-  pub unbiased-fits : SFits w32 (unbiased h u)
-  unbiased-fits = record { sfits = omega (arith, mag_unbiased u h m) }
 
 -- ---- a distance from 0 below half
 
@@ -91,24 +70,6 @@ module _ (half : ℕ) (at : Place) (z : ℤ) where
 
   pub integer-given : nat_abs z < half → integer half at z ≡ gives (biased half z)
   integer-given m = rw (lt-leb half (nat_abs z) m, add-biased half z (near_mag half z m))
-
--- ---- the tests of the code, on n + 2,147,483,648
-
-pub bias_is : {r : ℕ} (z : ℤ) → mag z < 2147483648 → r ≡ biased 2147483648 (to_z w32 (of_z w32 z)) → r ≡ biased 2147483648 z
-bias_is z m e = e ∙ ap (λ (y : ℤ). biased 2147483648 y) (to_z-of_z {w = w32} {z = z} (record { sfits = m }))
-
-pub too_low : (half : ℕ) (z : ℤ) → half ≤ 2147483648 → biased 2147483648 z ≤ 2147483648 - half → half ≤ nat_abs z
-too_low half (pos n) s h = omega arith
-too_low half (negsuc n) s h = omega arith
-
-pub too_high : (half : ℕ) (z : ℤ) → 2147483648 + half ≤ biased 2147483648 z → half ≤ nat_abs z
-too_high half (pos n) h = omega arith
-too_high half (negsuc n) h = omega arith
-
-pub in_range : (half : ℕ) (z : ℤ) → mag z < 2147483648 → half ≤ 2147483648 → 2147483648 - half < biased 2147483648 z → biased 2147483648 z < 2147483648 + half
-    → (nat_abs z < half) × (biased 2147483648 z - (2147483648 - half) ≡ biased half z)
-in_range half (pos n) m s l h = omega arith
-in_range half (negsuc n) m s l h = omega arith
 
 -- the bias, taken off again
 pub unbiased-biased : (h : ℕ) (z : ℤ) → mag z < h → unbiased h (biased h z) ≡ z

@@ -3,15 +3,10 @@ use Rattle.std.specs.Prelude.{ℕ, Bool, true, false}
 use Rattle.common.specs.Choice.{when◌then◌else◌, ◌<?◌}
 use Rattle.common.specs.Sizes.{max_string}
 use Rattle.common.specs.Answers.{Answer, gives, refused, column, on_given}
-use Rattle.common.specs.Refusals.{refused_by}
 use Rattle.cell.specs.declared.form.ColumnType.{ColumnType}
 use Rattle.cell.specs.declared.form.ColumnType.TheVariants as type
 use Rattle.cell.specs.declared.form.CellForm.{CellForm}
 use Rattle.cell.specs.declared.form.CellForm.TheVariants as form
-use Rattle.cell.specs.declared.form.FormOf.{FormOf}
-use Rattle.cell.specs.declared.form.FormOf.TheVariants as form_of
-use Rattle.cell.specs.declared.form.Stored.{Stored}
-use Rattle.cell.specs.declared.form.Stored.TheVariants as stored
 
 -- "Str holds the number in two or three bytes": the form of a type where references are short, or long
 abbrev pub form_for : ColumnType → Bool → CellForm
@@ -45,11 +40,3 @@ sound_type c type.Binary = gives type.Binary
 -- else the form of a column of this type
 abbrev pub form_answer : ℕ → ColumnType → Bool → Answer CellForm
 form_answer c t long = on_given (sound_type c t) (λ u. gives (form_for u long))
-
-abbrev pub form_as : FormOf → Answer CellForm
-form_as (form_of.Form f) = gives f
-form_as (form_of.Refused x) = refused_by x
-
-abbrev pub stored_as : Stored → Answer ℕ
-stored_as (stored.Number n) = gives n
-stored_as (stored.Refused x) = refused_by x

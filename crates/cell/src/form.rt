@@ -1,18 +1,22 @@
 // How the cells of a column are stored: its type and the width of references, without maximum and marks.
-ghost use Rattle.std.specs.Prelude.{◌≡◌, ◌+◌, ◌<◌, ◌≤◌, ◌^◌};
+ghost use Rattle.std.specs.Prelude.{◌≡◌, ◌≢◌, ◌+◌, ◌<◌, ◌≤◌, ◌^◌};
 ghost use Rattle.common.specs.Answers.{cell as place_of};
 ghost use Rattle.little_endian.specs.Numbers.{number_at};
+ghost use Rattle.common.specs.Refusals.{answered};
 ghost use Rattle.cell.specs.Kinds.{cell_as};
 ghost use Rattle.cell.specs.Handed.{handed_kind, handed_number};
-ghost use Rattle.cell.specs.Cells.{width, stored, unstored, integer_cell, reference_cell, binary_cell};
-ghost use Rattle.cell.specs.Forms.{form_for, type_in, long_in, form_answer, form_as, stored_as};
+ghost use Rattle.cell.specs.Cells.{width, stored, unstored};
+ghost use Rattle.cell.specs.Forms.{form_for, type_in, long_in, form_answer};
+ghost use Rattle.cell.specs.inner.Signed.{unbiased};
 ghost use Rattle.cell.specs.inner.Forms.{integer_stored_lem, reference_stored_lem, binary_stored_lem};
 
 use crate::value::{Cell, ValueRef};
-use common::{Made, Refusal, StringRef};
+use common::{Refusal, StringRef};
 
-// How far the smallest integer of 32 bits lies from 0.
-const SMALLEST: u64 = 2_147_483_648;
+// Half the numbers of 16 and of 32 bits: an integer is stored as its sum with that.
+const HALF_16: u32 = 1 << 15;
+
+const HALF_32: u32 = 1 << 31;
 
 const MAX_SHORT: u32 = 65_535;
 
@@ -21,7 +25,7 @@ const NULL: u32 = 0;
 
 const BINARY: u32 = 1;
 
-#[derive(Clone, Copy)]
+#[derive(Clone, Copy, Debug, PartialEq, Eq)]
 pub enum ColumnType {
     Int16,
     Int32,
@@ -30,7 +34,7 @@ pub enum ColumnType {
     Binary,
 }
 
-#[derive(Clone, Copy)]
+#[derive(Clone, Copy, Debug, PartialEq, Eq)]
 pub enum CellForm {
     Int16,
     Int32,
@@ -39,37 +43,16 @@ pub enum CellForm {
     Binary,
 }
 
-#[derive(Clone, Copy)]
-pub enum FormOf {
-    Form(CellForm),
-    Refused(Refusal),
-}
-
-// The number that a cell stores, or why it cannot be stored.
-#[derive(Clone, Copy)]
-pub enum Stored {
-    Number(u32),
-    Refused(Refusal),
-}
-
 impl ColumnType {
     // The form of the cells of a column of this type, which is the table's column `column`.
-    pub fn form(self, column: usize, long_string_refs: bool) -> FormOf
-        ensures { form_as result ≡ form_answer column self long_string_refs }
+    pub fn form(self, column: usize, long_string_refs: bool) -> Result<CellForm, Refusal>
+        ensures { answered result ≡ form_answer column self long_string_refs }
     {
         match self {
-            ColumnType::Int16 => FormOf::Form(CellForm::Int16),
-            ColumnType::Int32 => FormOf::Form(CellForm::Int32),
-            ColumnType::Str(max) => {
-                if common::sizes::MAX_STRING < max {
-                    return FormOf::Refused(Refusal::StringMaximum { column });
-                }
-                if long_string_refs {
-                    return FormOf::Form(CellForm::LongRef);
-                }
-                FormOf::Form(CellForm::ShortRef)
+            ColumnType::Str(max) if max > common::sizes::MAX_STRING => {
+                Err(Refusal::StringMaximum { column })
             }
-            ColumnType::Binary => FormOf::Form(CellForm::Binary),
+            _ => Ok(self.cell_form(long_string_refs)),
         }
     }
 
@@ -80,12 +63,8 @@ impl ColumnType {
         match self {
             ColumnType::Int16 => CellForm::Int16,
             ColumnType::Int32 => CellForm::Int32,
-            ColumnType::Str(_) => {
-                if long_string_refs {
-                    return CellForm::LongRef;
-                }
-                CellForm::ShortRef
-            }
+            ColumnType::Str(_) if long_string_refs => CellForm::LongRef,
+            ColumnType::Str(_) => CellForm::ShortRef,
             ColumnType::Binary => CellForm::Binary,
         }
     }
@@ -96,21 +75,22 @@ impl CellForm {
         ensures { result ≡ width (type_in self) (long_in self) }
     {
         match self {
-            CellForm::Int16 => 2,
-            CellForm::Int32 => 4,
-            CellForm::ShortRef => 2,
+            CellForm::Int16 | CellForm::ShortRef | CellForm::Binary => 2,
             CellForm::LongRef => 3,
-            CellForm::Binary => 2,
+            CellForm::Int32 => 4,
         }
     }
 
     // Judges the cell that is to stand at a row and a column.
-    pub fn stored(self, cell: Cell, row: usize, column: usize) -> Stored
-        ensures { stored_as result ≡ stored (type_in self) (long_in self) (place_of row column) (handed_kind cell) (handed_number cell) }
+    pub fn stored(self, cell: Cell, row: usize, column: usize) -> Result<u32, Refusal>
+        ensures { answered result ≡ stored (type_in self) (long_in self) (place_of row column) (handed_kind cell) (handed_number cell) }
     {
+        if matches!(cell, Cell::Null) {
+            return Ok(NULL);
+        }
         match self {
-            CellForm::Int16 => integer_stored(cell, 32_768, row, column),
-            CellForm::Int32 => integer_stored(cell, SMALLEST, row, column),
+            CellForm::Int16 => integer_stored(cell, HALF_16, row, column),
+            CellForm::Int32 => integer_stored(cell, HALF_32, row, column),
             CellForm::ShortRef => reference_stored(cell, false, row, column),
             CellForm::LongRef => reference_stored(cell, true, row, column),
             CellForm::Binary => binary_stored(cell, row, column),
@@ -125,60 +105,45 @@ impl CellForm {
     }
 }
 
-fn integer_stored(cell: Cell, half: u64, row: usize, column: usize) -> Stored
-    requires { half ≤ 2147483648 }
-    ensures { stored_as result ≡ integer_stored_lem half (place_of row column) cell }
+fn integer_stored(cell: Cell, half: u32, row: usize, column: usize) -> Result<u32, Refusal>
+    requires { (half ≤ 2147483648) × (cell ≢ Cell.Null) }
+    ensures { answered result ≡ integer_stored_lem half (place_of row column) cell }
 {
-    if let Cell::Null = cell {
-        return Stored::Number(NULL);
-    }
     let Cell::Int(n) = cell else {
-        return Stored::Refused(Refusal::CellKind { row, column });
+        return Err(Refusal::CellKind { row, column });
     };
-    let below = SMALLEST - half;
-    let biased = crate::signed::bias(n);
-    if biased <= below {
-        return Stored::Refused(Refusal::CellIntegerRange { row, column });
+    let number = i64::from(n) + i64::from(half);
+    if !(1..2 * i64::from(half)).contains(&number) {
+        return Err(Refusal::CellIntegerRange { row, column });
     }
-    if SMALLEST + half <= biased {
-        return Stored::Refused(Refusal::CellIntegerRange { row, column });
-    }
-    Stored::Number((biased - below) as u32)
+    Ok(number as u32)
 }
 
-fn reference_stored(cell: Cell, long: bool, row: usize, column: usize) -> Stored
-    ensures { stored_as result ≡ reference_stored_lem long (place_of row column) cell }
+fn reference_stored(cell: Cell, long: bool, row: usize, column: usize) -> Result<u32, Refusal>
+    requires { cell ≢ Cell.Null }
+    ensures { answered result ≡ reference_stored_lem long (place_of row column) cell }
 {
-    if let Cell::Null = cell {
-        return Stored::Number(NULL);
-    }
     let Cell::Str(n) = cell else {
-        return Stored::Refused(Refusal::CellKind { row, column });
+        return Err(Refusal::CellKind { row, column });
     };
-    let made = StringRef::new(n);
-    let Made::Ref(reference) = made else {
-        return Stored::Refused(Refusal::CellReferenceRange { row, column });
+    let Ok(StringRef(number)) = StringRef::new(n) else {
+        return Err(Refusal::CellReferenceRange { row, column });
     };
-    let number = reference.0 as u32;
-    if long {
-        return Stored::Number(number);
+    let number = number.unsigned_abs();
+    if !long && number > MAX_SHORT {
+        return Err(Refusal::CellReferenceLong { row, column });
     }
-    if MAX_SHORT < number {
-        return Stored::Refused(Refusal::CellReferenceLong { row, column });
-    }
-    Stored::Number(number)
+    Ok(number)
 }
 
-fn binary_stored(cell: Cell, row: usize, column: usize) -> Stored
-    ensures { stored_as result ≡ binary_stored_lem (place_of row column) cell }
+fn binary_stored(cell: Cell, row: usize, column: usize) -> Result<u32, Refusal>
+    requires { cell ≢ Cell.Null }
+    ensures { answered result ≡ binary_stored_lem (place_of row column) cell }
 {
-    if let Cell::Null = cell {
-        return Stored::Number(NULL);
-    }
     let Cell::Binary = cell else {
-        return Stored::Refused(Refusal::CellKind { row, column });
+        return Err(Refusal::CellKind { row, column });
     };
-    Stored::Number(BINARY)
+    Ok(BINARY)
 }
 
 // The value of a number that the cells of a form hold.
@@ -186,40 +151,21 @@ fn value_of(form: CellForm, number: u32) -> ValueRef
     requires { number < 256 ^ width (type_in form) (long_in form) }
     ensures { cell_as result ≡ unstored (type_in form) number }
 {
+    if number == NULL {
+        return ValueRef::Null;
+    }
     match form {
-        CellForm::Int16 => integer_value(number, 32_768),
-        CellForm::Int32 => integer_value(number, SMALLEST),
-        CellForm::ShortRef => reference_value(number),
-        CellForm::LongRef => reference_value(number),
-        CellForm::Binary => binary_value(number),
+        CellForm::Int16 => ValueRef::Int(less_half(number, HALF_16)),
+        CellForm::Int32 => ValueRef::Int(less_half(number, HALF_32)),
+        CellForm::ShortRef | CellForm::LongRef => ValueRef::Str(StringRef(number.cast_signed())),
+        CellForm::Binary => ValueRef::Binary,
     }
 }
 
-fn integer_value(number: u32, half: u64) -> ValueRef
+// The integer that was stored with half its numbers added.
+fn less_half(number: u32, half: u32) -> i32
     requires { (half ≤ 2147483648) × (number < half + half) }
-    ensures { cell_as result ≡ integer_cell half number }
+    ensures { result ≡ unbiased half number }
 {
-    if number == NULL {
-        return ValueRef::Null;
-    }
-    ValueRef::Int(crate::signed::difference(number, half))
-}
-
-fn reference_value(number: u32) -> ValueRef
-    requires { number < 16777216 }
-    ensures { cell_as result ≡ reference_cell number }
-{
-    if number == NULL {
-        return ValueRef::Null;
-    }
-    ValueRef::Str(StringRef(number as i32))
-}
-
-fn binary_value(number: u32) -> ValueRef
-    ensures { cell_as result ≡ binary_cell number }
-{
-    if number < BINARY {
-        return ValueRef::Null;
-    }
-    ValueRef::Binary
+    (i64::from(number) - i64::from(half)) as i32
 }

@@ -1,9 +1,9 @@
 // A cell of a table: what it holds, on reading and for writing, the types of columns, and the form in which each stores it.
 #![tactic(auto)]
 
+pub mod fixed;
 mod form;
-mod signed;
 mod value;
 
-pub use crate::form::{CellForm, ColumnType, FormOf, Stored};
+pub use crate::form::{CellForm, ColumnType};
 pub use crate::value::{Cell, Value, ValueRef};

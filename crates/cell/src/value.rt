@@ -5,7 +5,7 @@ ghost use Rattle.cell.specs.Handed.{cell_of};
 
 use common::StringRef;
 
-#[derive(Clone, Copy)]
+#[derive(Clone, Copy, Debug, PartialEq, Eq)]
 pub enum ValueRef {
     Null,
     Int(i32),
@@ -14,7 +14,7 @@ pub enum ValueRef {
 }
 
 // A value whose text, where it is one, stands beside it.
-#[derive(Clone, Copy)]
+#[derive(Clone, Copy, Debug, PartialEq, Eq)]
 pub enum Value {
     Null,
     Int(i32),
@@ -23,7 +23,7 @@ pub enum Value {
 }
 
 // A cell handed over for writing. Its number was not looked at, and its kind may be unknown.
-#[derive(Clone, Copy)]
+#[derive(Clone, Copy, Debug, PartialEq, Eq)]
 pub enum Cell {
     Null,
     Int(i32),
@@ -48,10 +48,9 @@ impl ValueRef {
         ensures { result ≡ ref_number self }
     {
         match self {
-            ValueRef::Null => 0,
             ValueRef::Int(n) => n,
             ValueRef::Str(s) => s.0,
-            ValueRef::Binary => 0,
+            ValueRef::Null | ValueRef::Binary => 0,
         }
     }
 }
@@ -60,18 +59,12 @@ impl Cell {
     pub fn new(kind: u8, number: i32) -> Cell
         ensures { result ≡ cell_of kind number }
     {
-        if kind == 0 {
-            return Cell::Null;
+        match kind {
+            0 => Cell::Null,
+            1 => Cell::Int(number),
+            2 => Cell::Str(number),
+            3 => Cell::Binary,
+            _ => Cell::Unknown,
         }
-        if kind == 1 {
-            return Cell::Int(number);
-        }
-        if kind == 2 {
-            return Cell::Str(number);
-        }
-        if kind == 3 {
-            return Cell::Binary;
-        }
-        Cell::Unknown
     }
 }

@@ -6,19 +6,22 @@ use lib.Pow.{pow_pos}
 use native.Mathlib.Numerals.{one-add}
 use native.Mathlib.Omega.{arith}
 use lib.Dec.{lit<, eqb}
-use mathlib.Core.Bool.{Bool, true, false, not}
+use mathlib.Core.Bool.{Bool, true, false, not, ◌||◌}
 use mathlib.Core.Logic.{⊎_elim}
 use borrow.Author.Tests.{eq-eqb, ne_eqb, eqb-true, eqb-false}
 use Rattle.common.specs.Choice.{when◌then◌else◌}
-use Rattle.column.specs.Bits.{has, without, type_bits_lem}
+use Rattle.common.specs.Answers.{gives, refused, column}
+use Rattle.column.specs.Bits.{bits_of, has, without, type_from, type_bits_lem}
+use Rattle.column.proofs.Unnamed.{bits_are}
 use Rattle.column.specs.inner.Bits.{MaximumFits}
 use Rattle.cell.proofs.Halves.{lt_or_le}
 use Rattle.cell.specs.declared.form.ColumnType.{ColumnType}
 use Rattle.cell.specs.declared.form.ColumnType.TheVariants.{Int16, Int32, Str, Binary}
-use lib.IntN.{pos}
+use lib.IntN.{ℤ, pos, nat_abs}
 use mir.Syntax.{w32}
-use mir.Val.{to_z}
-use mir.Facts.{to_z_pos}
+use mir.Val.{to_z, of_z}
+use mir.Facts.{to_z_pos, Fits-of_z}
+use Rattle.std.proofs.Common.{FitsSigned}
 use lib.Bits.{bit_and, bit_or, and_mask, and_high, and_block, or_add_and}
 
 -- n & (1 << k)
@@ -113,3 +116,14 @@ flag k b false e = sym (has-yes k b (eqb-false (bit_and b (2 ^ k)) 0 e))
 
 pub mark_is : (k b : ℕ) → not (eqb (bit_and b (2 ^ k)) 0) ≡ has (2 ^ k) b
 mark_is k b = flag k b (eqb (bit_and b (2 ^ k)) 0) refl
+
+-- ---- the tests for the type, by the code's masks
+
+pub type_by_masks : (z : ℤ) → FitsSigned w32 z → type_from 0 (bits_of z)
+    ≡ (when eqb (bit_and (of_z w32 z) 4294963199) 0x900 then gives Binary
+    else when not (eqb (bit_and (of_z w32 z) 2048) 0) then gives (Str (nat_abs (to_z w32 (bit_and (of_z w32 z) 255))))
+    else when eqb (nat_abs (to_z w32 (bit_and (of_z w32 z) 255))) 4 then gives (when not (eqb (bit_and (of_z w32 z) 1024) 0) then Binary else Int32)
+    else when eqb (nat_abs (to_z w32 (bit_and (of_z w32 z) 255))) 2 || eqb (nat_abs (to_z w32 (bit_and (of_z w32 z) 255))) 1 then gives Int16
+    else refused 13 (column 0))
+type_by_masks z f =
+    rw (bits_are z, without-mask (of_z w32 z) (Fits-of_z {w = w32} f).fits, low_byte_is (of_z w32 z), mark_is 11 (of_z w32 z), mark_is 10 (of_z w32 z))

@@ -6,6 +6,7 @@ use native.Mathlib.Omega.{arith}
 use lib.Dec.{T, eqb, ltb}
 use borrow.Author.Tests.{eqb-true, ltb-false}
 use lib.IntN.{pos}
+use Rattle.std.specs.Prelude.{Option}
 use Rattle.common.specs.Choice.{when◌then◌else◌}
 use Rattle.common.specs.Answers.{gives, refused, on_given}
 use Rattle.common.proofs.Below.{all_below, each, both}
@@ -76,7 +77,7 @@ told l u p max h =
 
 -- the column that the bits of a type and of marks make
 abbrev Back : ColumnType → Bool → Bool → Bool → Type 0
-Back t l u p = (r : ValueRange) (b : ColumnBuilder) (c : ℕ) → bits_column b c (pos (type_bits_lem t + marked l u p))
+Back t l u p = (r : Option ValueRange) (b : ColumnBuilder) (c : ℕ) → bits_column b c (pos (type_bits_lem t + marked l u p))
     ≡ gives (record { coltype = type_back (record { coltype = t; is_localizable = l; is_nullable = u; is_primary_key = p; value_range = r }); is_localizable = l; is_nullable = b.is_nullable || u; is_primary_key = p; value_range = b.value_range })
 
 back_int16 : (l u p : Bool) → Back Int16 l u p

@@ -1,9 +1,8 @@
 -- Document 01, "Value check": a value, with its text beside it.
-use Rattle.std.specs.Prelude.{ℕ, Bool, true, false, not, ◌&&◌, ◌||◌, List, length, ℤ, pos, negsuc}
+use Rattle.std.specs.Prelude.{ℕ, Bool, true, false, not, ◌&&◌, ◌||◌, Option, Some, None, List, length, ℤ, pos, negsuc}
 use Rattle.common.specs.Choice.{when◌then◌else◌, ◌<?◌, ◌≤?◌, ◌=?◌, ◌<ℤ?◌}
 use Rattle.common.specs.Sizes.{max_bytes}
 use Rattle.common.specs.Answers.{Answer, gives, refused, nowhere, on_given}
-use Rattle.common.specs.Refusals.{refused_by}
 use Rattle.cell.specs.declared.value.Value.{Value}
 use Rattle.cell.specs.declared.value.Value.TheVariants as value
 use Rattle.cell.specs.Cells.{is_binary_lem}
@@ -12,14 +11,11 @@ use Rattle.cell.specs.declared.form.ColumnType.{ColumnType}
 use Rattle.cell.specs.declared.form.ColumnType.TheVariants.{Int16, Int32, Str, Binary}
 use Rattle.column.specs.declared.column.Column.{Column}
 use Rattle.column.specs.declared.column.ValueRange.{ValueRange}
-use Rattle.column.specs.declared.column.ValueRange.TheVariants.{Any, Within}
-use Rattle.column.specs.declared.check.Validity.{Validity}
-use Rattle.column.specs.declared.check.Validity.TheVariants.{Valid, Invalid, Refused}
 
 -- "inside the range if given"
-abbrev pub inside : ValueRange → ℤ → Bool
-inside Any n = true
-inside (Within min max) n = not (n <ℤ? min || max <ℤ? n)
+abbrev pub inside : Option ValueRange → ℤ → Bool
+inside None n = true
+inside (Some r) n = not (n <ℤ? r.min || r.max <ℤ? n)
 
 -- above the one, at most the other
 abbrev pub above_up_to : ℤ → ℤ → ℤ → Bool
@@ -51,8 +47,3 @@ abbrev pub check_answer : Column → Value → List ℕ → Answer Bool
 check_answer x v text =
     when max_bytes <? length text then refused 22 nowhere
     else on_given (sound_type 0 x.coltype) (λ t. gives (suits x v (length text)))
-
-abbrev pub validity_as : Validity → Answer Bool
-validity_as Valid = gives true
-validity_as Invalid = gives false
-validity_as (Refused x) = refused_by x

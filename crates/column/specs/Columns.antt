@@ -1,22 +1,16 @@
 -- Document 01, "Columns": a column being made, its marks, and its written bits.
-use Rattle.std.specs.Prelude.{ℕ, ◌+◌, true, false, ◌||◌, ℤ, pos}
+use Rattle.std.specs.Prelude.{ℕ, ◌+◌, true, false, ◌||◌, ℤ, pos, Some, None}
 use Rattle.common.specs.Choice.{when◌then◌else◌}
 use Rattle.common.specs.Answers.{Answer, gives, on_given}
-use Rattle.common.specs.Refusals.{refused_by}
 use Rattle.cell.specs.Forms.{sound_type}
 use Rattle.column.specs.Bits.{bits_of, has, type_from, type_bits_lem}
 use Rattle.cell.specs.declared.form.ColumnType.{ColumnType}
 use Rattle.column.specs.declared.column.Column.{Column}
 use Rattle.column.specs.declared.column.ColumnBuilder.{ColumnBuilder}
-use Rattle.column.specs.declared.column.ValueRange.TheVariants.{Any, Within}
-use Rattle.column.specs.declared.column.ColumnMade.{ColumnMade}
-use Rattle.column.specs.declared.column.ColumnMade.TheVariants.{Made, Refused}
-use Rattle.column.specs.declared.column.Bitfield.{Bitfield}
-use Rattle.column.specs.declared.column.Bitfield.TheVariants.{Bits, Refused as BitsRefused}
 
 -- "The nullable, localizable and primary key marks are set one after another on a column being made": at first there is none
 abbrev pub building : ColumnBuilder
-building = record { is_localizable = false; is_nullable = false; is_primary_key = false; value_range = Any }
+building = record { is_localizable = false; is_nullable = false; is_primary_key = false; value_range = None }
 
 abbrev pub with_localizable : ColumnBuilder → ColumnBuilder
 with_localizable b = record { is_localizable = true; is_nullable = b.is_nullable; is_primary_key = b.is_primary_key; value_range = b.value_range }
@@ -28,7 +22,7 @@ abbrev pub with_primary_key : ColumnBuilder → ColumnBuilder
 with_primary_key b = record { is_localizable = b.is_localizable; is_nullable = b.is_nullable; is_primary_key = true; value_range = b.value_range }
 
 abbrev pub with_range : ColumnBuilder → ℤ → ℤ → ColumnBuilder
-with_range b min max = record { is_localizable = b.is_localizable; is_nullable = b.is_nullable; is_primary_key = b.is_primary_key; value_range = Within min max }
+with_range b min max = record { is_localizable = b.is_localizable; is_nullable = b.is_nullable; is_primary_key = b.is_primary_key; value_range = Some (record { min = min; max = max }) }
 
 -- the column of a type, with the marks and the range made
 abbrev pub finished : ColumnBuilder → ColumnType → Column
@@ -48,11 +42,3 @@ marks x = (when x.is_localizable then 0x200 else 0) + (when x.is_nullable then 0
 -- `bitfield`: 19, else the bits; a column by itself has the place 0
 abbrev pub bitfield_answer : Column → Answer ℤ
 bitfield_answer x = on_given (sound_type 0 x.coltype) (λ t. gives (pos (type_bits_lem t + marks x)))
-
-abbrev pub column_made_as : ColumnMade → Answer Column
-column_made_as (Made x) = gives x
-column_made_as (Refused x) = refused_by x
-
-abbrev pub bitfield_as : Bitfield → Answer ℤ
-bitfield_as (Bits n) = gives n
-bitfield_as (BitsRefused x) = refused_by x

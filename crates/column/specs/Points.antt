@@ -1,12 +1,11 @@
 -- Points: a column's bits and the value check, at each bound and one past it, each computed from the definition.
-use Rattle.std.specs.Prelude.{◌≡◌, Bool, true, false, List, [], ℕ, ℤ, pos, negsuc, length, replicate}
+use Rattle.std.specs.Prelude.{◌≡◌, Bool, true, false, List, [], ℕ, ℤ, pos, negsuc, length, replicate, None}
 use Rattle.common.specs.Answers.{gives, refused, nowhere, column}
 use Rattle.cell.specs.declared.value.Value.{Value}
 use Rattle.cell.specs.declared.value.Value.TheVariants as value
 use Rattle.cell.specs.declared.form.ColumnType.{ColumnType}
 use Rattle.cell.specs.declared.form.ColumnType.TheVariants.{Int16, Int32, Str, Binary}
 use Rattle.column.specs.declared.column.ColumnBuilder.{ColumnBuilder}
-use Rattle.column.specs.declared.column.ValueRange.TheVariants.{Any}
 use Rattle.column.specs.Columns.{building, with_localizable, with_nullable, with_primary_key, with_range, finished, bits_column, bitfield_answer}
 use Rattle.column.specs.Check.{check_answer}
 
@@ -14,7 +13,7 @@ use Rattle.column.specs.Check.{check_answer}
 
 -- a column being made with these marks: localizable, nullable, primary key
 abbrev pub marked : Bool → Bool → Bool → ColumnBuilder
-marked l u p = record { is_localizable = l; is_nullable = u; is_primary_key = p; value_range = Any }
+marked l u p = record { is_localizable = l; is_nullable = u; is_primary_key = p; value_range = None }
 
 abbrev pub Reads : ℤ → ColumnType → ColumnBuilder → Type 0
 Reads bits t marks = bits_column building 0 bits ≡ gives (finished marks t)

@@ -21,51 +21,34 @@ const VALID_BIT: i32 = 0x100;
 
 const NONBINARY_BIT: i32 = 0x400;
 
-const INT16_SIZE: i32 = 2;
+const INT16_SIZE: u32 = 2;
 
-const INT32_SIZE: i32 = 4;
+const INT32_SIZE: u32 = 4;
 
-// The type that bits name, or that the size of an integer column is none.
-#[derive(Clone, Copy)]
-pub(crate) enum Read {
-    Type(ColumnType),
-    BadSize,
-}
-
-// The first test that fits decides.
-pub(crate) fn type_of(bits: i32) -> Read
+// The type that bits name, none where the size of an integer column is none. The first test that fits decides.
+pub(crate) fn type_of(bits: i32) -> Option<ColumnType>
     ensures { read_as result ≡ type_from 0 (bits_of bits) }
 {
-    let size = bits & FIELD_SIZE_MASK;
+    let size = (bits & FIELD_SIZE_MASK) as u32;
     if bits & !NULLABLE_BIT == STRING_BIT | VALID_BIT {
-        return Read::Type(ColumnType::Binary);
+        return Some(ColumnType::Binary);
     }
     if bits & STRING_BIT != 0 {
-        return Read::Type(ColumnType::Str(size as u32));
+        return Some(ColumnType::Str(size));
     }
-    if size == INT32_SIZE {
-        if bits & NONBINARY_BIT == 0 {
-            return Read::Type(ColumnType::Int32);
-        }
-        return Read::Type(ColumnType::Binary);
+    match size {
+        INT32_SIZE if bits & NONBINARY_BIT == 0 => Some(ColumnType::Int32),
+        INT32_SIZE => Some(ColumnType::Binary),
+        1 | INT16_SIZE => Some(ColumnType::Int16),
+        _ => None,
     }
-    if size == INT16_SIZE {
-        return Read::Type(ColumnType::Int16);
-    }
-    if size == 1 {
-        return Read::Type(ColumnType::Int16);
-    }
-    Read::BadSize
 }
 
 // A maximum that the low byte of the bits cannot hold.
 pub(crate) fn too_long(coltype: ColumnType) -> bool
     ensures { result ≡ too_long_lem coltype }
 {
-    let ColumnType::Str(max) = coltype else {
-        return false;
-    };
-    common::sizes::MAX_STRING < max
+    matches!(coltype, ColumnType::Str(max) if max > common::sizes::MAX_STRING)
 }
 
 // The bits of a type with no marks.
@@ -74,8 +57,8 @@ pub(crate) fn type_bits(coltype: ColumnType) -> u32
     ensures { result ≡ type_bits_lem coltype }
 {
     match coltype {
-        ColumnType::Int16 => (VALID_BIT | NONBINARY_BIT | INT16_SIZE) as u32,
-        ColumnType::Int32 => (VALID_BIT | INT32_SIZE) as u32,
+        ColumnType::Int16 => (VALID_BIT | NONBINARY_BIT) as u32 | INT16_SIZE,
+        ColumnType::Int32 => VALID_BIT as u32 | INT32_SIZE,
         ColumnType::Str(max) => max | (STRING_BIT | VALID_BIT | NONBINARY_BIT) as u32,
         ColumnType::Binary => (STRING_BIT | VALID_BIT) as u32,
     }

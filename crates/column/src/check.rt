@@ -1,79 +1,46 @@
 // The check of a value against its column; a text stands beside the value.
-ghost use Rattle.std.specs.Prelude.{◌≡◌};
-ghost use Rattle.cell.specs.Cells.{is_binary_lem};
-ghost use Rattle.column.specs.Check.{inside, above_up_to, integer_fits, text_suits, suits, check_answer, validity_as};
+ghost use Rattle.std.specs.Prelude.{◌≡◌, Option};
+ghost use Rattle.common.specs.Refusals.{answered};
+ghost use Rattle.column.specs.Check.{inside, integer_fits, text_suits, suits, check_answer};
 
+use crate::bits;
 use crate::column::{Column, ValueRange};
 use cell::{ColumnType, Value};
 use common::Refusal;
-
-#[derive(Clone, Copy)]
-pub enum Validity {
-    Valid,
-    Invalid,
-    Refused(Refusal),
-}
+use common::sizes::MAX_BYTES;
 
 impl Column {
-    pub fn is_valid_value(self, value: Value, text: &[u8]) -> Validity
-        ensures { validity_as result ≡ check_answer self value text.now }
+    pub fn is_valid_value(self, value: Value, text: &[u8]) -> Result<bool, Refusal>
+        ensures { answered result ≡ check_answer self value text.now }
     {
-        if common::sizes::MAX_BYTES < text.len() {
-            return Validity::Refused(Refusal::OverSize);
+        if text.len() > MAX_BYTES {
+            return Err(Refusal::OverSize);
         }
-        let coltype = self.coltype;
-        if crate::bits::too_long(coltype) {
-            return Validity::Refused(Refusal::StringMaximum { column: 0 });
+        if bits::too_long(self.coltype) {
+            return Err(Refusal::StringMaximum { column: 0 });
         }
-        if allows(self, value, text.len()) {
-            return Validity::Valid;
-        }
-        Validity::Invalid
+        Ok(allows(self, value, text.len()))
     }
 }
 
 fn allows(column: Column, value: Value, bytes: usize) -> bool
     ensures { result ≡ suits column value bytes }
 {
-    let coltype = column.coltype;
     match value {
         Value::Null => column.is_nullable,
-        Value::Int(n) => {
-            let range = column.value_range;
-            if in_range(n, range) {
-                return int_fits(coltype, n);
-            }
-            false
-        }
-        Value::Str => text_fits(coltype, bytes),
-        Value::Binary => is_binary(coltype),
+        Value::Int(n) => in_range(n, column.value_range) && int_fits(column.coltype, n),
+        Value::Str => text_fits(column.coltype, bytes),
+        Value::Binary => column.coltype == ColumnType::Binary,
     }
 }
 
-fn is_binary(coltype: ColumnType) -> bool
-    ensures { result ≡ is_binary_lem coltype }
-{
-    match coltype {
-        ColumnType::Int16 => false,
-        ColumnType::Int32 => false,
-        ColumnType::Str(_) => false,
-        ColumnType::Binary => true,
-    }
-}
-
-fn in_range(n: i32, range: ValueRange) -> bool
+fn in_range(n: i32, range: Option<ValueRange>) -> bool
     ensures { result ≡ inside range n }
 {
-    let ValueRange::Within { min, max } = range else {
-        return true;
-    };
-    if n < min {
-        return false;
+    match range {
+        Some(ValueRange { min, max }) => (min..=max).contains(&n),
+        None => true,
     }
-    if max < n {
-        return false;
-    }
-    true
 }
 
 // Above the smallest integer of the width, which no cell takes, and at most the largest.
@@ -81,33 +48,18 @@ fn int_fits(coltype: ColumnType, n: i32) -> bool
     ensures { result ≡ integer_fits coltype n }
 {
     match coltype {
-        ColumnType::Int16 => within(n, -32_768, 32_767),
-        ColumnType::Int32 => within(n, -2_147_483_648, 2_147_483_647),
-        ColumnType::Str(_) => false,
-        ColumnType::Binary => false,
+        ColumnType::Int16 => (-32_767..=32_767).contains(&n),
+        ColumnType::Int32 => n > i32::MIN,
+        ColumnType::Str(_) | ColumnType::Binary => false,
     }
 }
 
 fn text_fits(coltype: ColumnType, bytes: usize) -> bool
     ensures { result ≡ text_suits coltype bytes }
 {
-    let ColumnType::Str(max) = coltype else {
-        return false;
-    };
-    if max == 0 {
-        return true;
+    match coltype {
+        ColumnType::Str(0) => true,
+        ColumnType::Str(max) => bytes <= max as usize,
+        _ => false,
     }
-    bytes <= max as usize
-}
-
-fn within(n: i32, low: i32, high: i32) -> bool
-    ensures { result ≡ above_up_to low high n }
-{
-    if low < n {
-        if high < n {
-            return false;
-        }
-        return true;
-    }
-    false
 }

@@ -5,6 +5,5 @@ mod bits;
 mod check;
 mod column;
 
-pub use crate::check::Validity;
-pub use crate::column::{Bitfield, Column, ColumnBuilder, ColumnMade, ValueRange};
+pub use crate::column::{Column, ColumnBuilder, ValueRange};
 pub use cell::ColumnType;

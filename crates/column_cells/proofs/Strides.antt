@@ -8,7 +8,7 @@ use native.Mathlib.Omega.{arith}
 use lib.ListN.{set}
 use Rattle.common.specs.Lists.{from}
 use Rattle.column_cells.specs.Strides.{strided}
-use Rattle.common.proofs.Lists.{from_next, from-done}
+use Rattle.common.proofs.Lists.{from_next}
 
 -- the next multiple, within as many
 pub next_le : (i n k : ℕ) → i < n → i * k + k ≤ n * k
@@ -22,6 +22,3 @@ next-is i k = rw add-one (suc-mul i k)
 module _ {A : Type 0} (g : ℕ → A) (i step row rows : ℕ) (l : List A) where
   pub stride_turn : row < rows → strided (i + step) step (map g (from (row + 1) (rows - (row + 1)))) (set l i (g row)) ≡ strided i step (map g (from row (rows - row))) l
   stride_turn h = rw (from_next row rows h)
-
-  pub stride_done : rows ≤ row → strided i step (map g (from row (rows - row))) l ≡ l
-  stride_done h = rw (from-done row rows h)

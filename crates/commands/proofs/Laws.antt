@@ -1,62 +1,31 @@
--- Bytes, ends, digits and numbers of a text, one step at a time.
-use Prim.Native.Nat.{ℕ, zero, suc, ◌+◌, ◌*◌, ◌-◌, ◌/◌, ◌≤◌, ◌<◌}
+-- Numbers of a text, the bytes of a word and the items of a list, one step at a time.
+use Prim.Native.Nat.{ℕ, zero, suc, ◌+◌, ◌*◌, ◌-◌, ◌≤◌, ◌<◌, min}
 use mathlib.Core.Path.{◌≡◌, refl, ap}
 use mathlib.Core.Bool.{Bool, true, false}
 use mathlib.Core.List.{List, [], ◌∷◌}
-use native.Mathlib.Nat.{not-suc-le-zero}
 use native.Mathlib.Numerals.{add-one}
 use native.Mathlib.Omega.{arith}
 use lib.ListN.{length, drop, get_or, drop_of_length-le}
 use lib.Seq.{drop-cons}
-use borrow.Author.Tests.{ltb-false, lt-ltb, le-ltb, le-leb, lt-leb}
+use Rattle.std.proofs.Common.{rules}
+use borrow.Author.Tests.{ltb-true, ltb-false, lt-ltb, le-ltb}
 use Rattle.common.specs.Choice.{when◌then◌else◌, ◌<?◌, ◌=?◌}
 use Rattle.common.specs.Lists.{◌over◌}
-use Rattle.commands.specs.Words.{byte_at, ends_at, run, digit_of, is_digit_lem, value_of, pairs_in, lesser, end_of, times_at_lem, product, pair_over, bytes_outcome, listed}
-
--- ---- digits
-
-pub digit_low : (b : ℕ) → 48 ≤ b → b ≤ 57 → b - 48 ≡ digit_of b
-digit_low b l h = simp (le-leb 48 b l, le-leb b 57 h)
-
-pub digit_high : (b : ℕ) → 97 ≤ b → b ≤ 102 → b - 97 + 10 ≡ digit_of b
-digit_high b l h = simp (le-leb 48 b (omega arith), lt-leb b 57 (omega arith), le-leb 97 b l, le-leb b 102 h)
-
-pub digit_below : (b : ℕ) → b < 48 → 0 ≡ digit_of b
-digit_below b h = simp (lt-leb 48 b h, lt-leb 97 b (omega arith))
-
-pub digit_between : (b : ℕ) → 57 < b → b < 97 → 0 ≡ digit_of b
-digit_between b l h = simp (le-leb 48 b (omega arith), lt-leb b 57 l, lt-leb 97 b h)
-
-pub digit_above : (b : ℕ) → 102 < b → 0 ≡ digit_of b
-digit_above b h = simp (le-leb 48 b (omega arith), lt-leb b 57 (omega arith), le-leb 97 b (omega arith), lt-leb b 102 h)
-
--- ---- ends
-
-module _ (upto : ℕ) (s : List ℕ) (i : ℕ) where
-  pub run-stop : i < length s → ends_at upto (get_or s i 0) ≡ true → i ≡ i + run upto (drop i s)
-  unfolding run
-  run-stop h e = rw (drop-cons s i 0 h, e) (omega arith)
-
-  pub run-turn : i < length s → ends_at upto (get_or s i 0) ≡ false → i + run upto (drop i s) ≡ i + 1 + run upto (drop (i + 1) s)
-  unfolding run
-  run-turn h e = rw (drop-cons s i 0 h, e, add-one) (omega arith)
-
-  pub run_end : length s ≤ i → i ≡ i + run upto (drop i s)
-  unfolding run
-  run_end h = rw (drop_of_length-le s {i = i} h) (omega arith)
+use Rattle.std.specs.Char.{is_ascii_digit}
+use Rattle.commands.specs.Words.{byte_at, value_of, pairs_in, end_of, after_end, digits_at, times_at_lem, product, pair_over, bytes_outcome, listed, next_at, next_times, items_left}
 
 -- ---- numbers
 
 module _ (sum : ℕ) (s : List ℕ) (i : ℕ) where
-  pub value_stop : i < length s → is_digit_lem (get_or s i 0) ≡ false → sum ≡ value_of sum (drop i s)
+  pub value_stop : i < length s → is_ascii_digit (get_or s i 0) ≡ false → sum ≡ value_of sum (drop i s)
   unfolding value_of
   value_stop h e = rw (drop-cons s i 0 h, e) refl
 
-  pub value_full : i < length s → is_digit_lem (get_or s i 0) ≡ true → 999999999 < sum → 0 ≡ value_of sum (drop i s)
+  pub value_full : i < length s → is_ascii_digit (get_or s i 0) ≡ true → 999999999 < sum → 0 ≡ value_of sum (drop i s)
   unfolding value_of
   value_full h e f = rw (drop-cons s i 0 h, e, lt-ltb 999999999 sum f) refl
 
-  pub value_turn : i < length s → is_digit_lem (get_or s i 0) ≡ true → sum ≤ 999999999 → value_of sum (drop i s) ≡ value_of (sum * 10 + digit_of (get_or s i 0)) (drop (i + 1) s)
+  pub value_turn : i < length s → is_ascii_digit (get_or s i 0) ≡ true → sum ≤ 999999999 → value_of sum (drop i s) ≡ value_of (sum * 10 + (get_or s i 0 - 48)) (drop (i + 1) s)
   unfolding value_of
   value_turn h e f = rw (drop-cons s i 0 h, e, le-ltb 999999999 sum f, add-one) refl
 
@@ -65,29 +34,6 @@ module _ (sum : ℕ) (s : List ℕ) (i : ℕ) where
   value_end h = rw (drop_of_length-le s {i = i} h) refl
 
 -- ---- the bytes of a word
-
-pub lesser-left : (a b : ℕ) → lesser a b ≤ a
-lesser-left a b = go (a <? b) refl
-  where
-    go : (t : Bool) → (a <? b) ≡ t → (when t then a else b) ≤ a
-    go true e = omega arith
-    go false e = ltb-false a b e
-
-pub lesser-right : (a b : ℕ) → lesser a b ≤ b
-lesser-right a b = go (a <? b) refl
-  where
-    go : (t : Bool) → (a <? b) ≡ t → (when t then a else b) ≤ b
-    go true e = omega (arith, borrow.Author.Tests.ltb-true a b e)
-    go false e = omega arith
-
--- the k-th pair of a word lies before its end
-pub inside : (s : List ℕ) (from to k : ℕ) → k < pairs_in s from to → from + 2 * k + 1 < to
-inside s from to k = go (byte_at s from =? 45) (to <? from) refl
-  where
-    go : (t u : Bool) → (to <? from) ≡ u → k < (when t then 0 else when u then 0 else (to - from) / 2) → from + 2 * k + 1 < to
-    go true u e h = absurd (not-suc-le-zero h)
-    go false true e h = absurd (not-suc-le-zero h)
-    go false false e h = omega (arith, h, ltb-false to from e)
 
 pub listed-length : (f : ℕ → ℕ) (k n : ℕ) → length (listed f k n) ≡ n
 unfolding listed
@@ -106,20 +52,52 @@ listed-end f k n h =
     let e : n - k ≡ 0 = omega arith in
     rw e refl
 
-pub stored : (s : List ℕ) (from end once times p n : ℕ) (out before : List ℕ) → end ≡ end_of s from 2 → once ≡ pairs_in s from end → times ≡ times_at_lem s end → p ≡ product once times → n ≡ lesser (length before) p → out ≡ listed (pair_over s from once) 0 n over before → ◌≡◌ {A = ℕ × List ℕ} (n, out) (bytes_outcome s from before)
+pub stored : (s : List ℕ) (from end once times p n : ℕ) (out before : List ℕ) → end ≡ end_of s from 2 → once ≡ pairs_in s from end → times ≡ times_at_lem s end → p ≡ product once times → n ≡ min (length before) p → out ≡ listed (pair_over s from once) 0 n over before → ◌≡◌ {A = ℕ × List ℕ} (n, out) (bytes_outcome s from before)
 stored s from end once times p n out before e o t q m left = rw (left, m, q, t, o, e) refl
 
--- what a repetition asks of its parts, where one of its bytes is read
-pub some : (once times k n : ℕ) → k < n → n ≤ product once times → 0 < once
-some zero times k n h m = absurd (not-suc-le-zero (native.Mathlib.Nat.le_trans h (rw (none times) at m)))
-  where
-    none : (times : ℕ) → product 0 times ≡ 0
-    none times = go (4294967295 <? times)
-      where
-        go : (t : Bool) → (when t then 0 else 0 * times) ≡ 0
-        go true = refl
-        go false = native.Mathlib.Nat.zero-mul times
-some (suc once) times k n h m = omega arith
+-- ---- the items of a list
 
-pub product-fits : (a b : ℕ) → a ≤ 4294967295 → b ≤ 4294967295 → a * b < 18446744073709551616
-product-fits a b ha hb = omega (arith, native.Mathlib.Nat.mul-le-mul ha hb)
+digit_most : (b : ℕ) → is_ascii_digit b ≡ true → b ≤ 57
+digit_most b e = search rules
+
+value-bound : (sum : ℕ) (s : List ℕ) → sum ≤ 9999999999 → value_of sum s ≤ 9999999999
+unfolding value_of
+value-bound sum [] h = h
+value-bound sum (b ∷ s) h = go (is_ascii_digit b) refl (999999999 <? sum) refl (λ k m. value-bound k s m)
+  where
+    go : (t : Bool) → is_ascii_digit b ≡ t → (u : Bool) → (999999999 <? sum) ≡ u → ((k : ℕ) → k ≤ 9999999999 → value_of k s ≤ 9999999999) → (when t then (when u then 0 else value_of (sum * 10 + (b - 48)) s) else sum) ≤ 9999999999
+    go false e u f more = h
+    go true e true f more = omega arith
+    go true e false f more = more (sum * 10 + (b - 48)) (omega (arith, ltb-false 999999999 sum f, digit_most b e))
+
+times-bound : (s : List ℕ) (e : ℕ) → times_at_lem s e ≤ 9999999999
+times-bound s e = go (byte_at s e =? 42)
+  where
+    go : (t : Bool) → (when t then digits_at s (after_end s e) else 1) ≤ 9999999999
+    go true = value-bound 0 _ (omega arith)
+    go false = omega arith
+
+-- an item's end lies before its text's, or is that
+later : (s : List ℕ) (at : ℕ) → at < length s → at < after_end s (end_of s at 3)
+later s at h = go (end_of s at 3 <? length s) refl
+  where
+    go : (t : Bool) → (end_of s at 3 <? length s) ≡ t → at < (when t then end_of s at 3 + 1 else end_of s at 3)
+    go true e = omega arith
+    go false e = omega (arith, ltb-false (end_of s at 3) (length s) e)
+
+fewer : (m at left at' left' : ℕ) → at < m → (at' < m → (m - at') * 10000000000 + left' < (m - at) * 10000000000 + left) → (when at' <? m then (m - at') * 10000000000 + left' else 0) < (when at <? m then (m - at) * 10000000000 + left else 0)
+fewer m at left at' left' h less = rw (lt-ltb at m h) (go (at' <? m) refl)
+  where
+    go : (t : Bool) → (at' <? m) ≡ t → (when t then (m - at') * 10000000000 + left' else 0) < (m - at) * 10000000000 + left
+    go true e = less (ltb-true at' m e)
+    go false e = omega arith
+
+pub items_fewer : (s t : List ℕ) (at left end at' left' : ℕ) → t ≡ s → at' ≡ next_at s at left → left' ≡ next_times s at left → at < min end (length s) → items_left t at' left' end < items_left s at left end
+items_fewer s t at left end at' left' e a l h = rw (e, a, l) (go (1 <? left) refl)
+  where
+    go : (u : Bool) → (1 <? left) ≡ u → items_left s (when u then at else after_end s (end_of s at 3)) (when u then left - 1 else times_at_lem s (end_of s (after_end s (end_of s at 3)) 2)) end < items_left s at left end
+    go true f = fewer (min end (length s)) at left at (left - 1) h (λ k. omega (arith, ltb-true 1 left f))
+    go false f =
+        let on : at < after_end s (end_of s at 3) = later s at (omega (arith, h)) in
+        let few = times-bound s (end_of s (after_end s (end_of s at 3)) 2) in
+        fewer (min end (length s)) at left _ _ h (λ k. omega (arith, on, k, few))

@@ -1,7 +1,12 @@
 -- Words of the command language in a text, by their places.
-use Rattle.std.specs.Prelude.{ℕ, zero, suc, ◌+◌, ◌*◌, ◌-◌, ◌/◌, ◌%◌, Bool, false, ◌&&◌, List, [], ◌∷◌, length, drop, get_or}
+use Rattle.std.specs.Prelude.{◌≡◌, ℤ, pos, ◌-ℤ◌, ℕ, zero, suc, ◌+◌, ◌*◌, ◌-◌, ◌/◌, ◌%◌, Bool, false, not, ◌&&◌, List, [], ◌∷◌, length, take, drop, get_or, min, Option, Some, None}
+use Rattle.std.specs.List.{prefix_len}
+use Rattle.std.specs.Char.{is_ascii_digit}
 use Rattle.common.specs.Choice.{when◌then◌else◌, ◌<?◌, ◌≤?◌, ◌=?◌}
 use Rattle.common.specs.Lists.{◌over◌}
+use Rattle.commands.specs.declared.words.End.{End}
+use Rattle.commands.specs.declared.words.Words.{Words}
+use Rattle.commands.specs.declared.words.End.TheVariants.{Kind, Times, Item, Word, Line}
 
 -- a place past the end reads 0
 abbrev pub byte_at : List ℕ → ℕ → ℕ
@@ -11,16 +16,32 @@ byte_at s i = get_or s i 0
 abbrev pub rank_of : ℕ → ℕ
 rank_of b = when b =? 10 then 5 else when b =? 32 then 4 else when b =? 44 then 3 else when b =? 42 then 2 else when b =? 58 then 1 else 0
 
+-- how far a reading goes, as such a number
+abbrev pub end_number : End → ℕ
+end_number Kind = 1
+end_number Times = 2
+end_number Item = 3
+end_number Word = 4
+end_number Line = 5
+
+-- what ends there, as such a number, 0 for nothing
+abbrev pub rank_in : Option End → ℕ
+rank_in None = 0
+rank_in (Some upto) = end_number upto
+
 abbrev pub ends_at : ℕ → ℕ → Bool
 ends_at upto b = upto ≤? rank_of b
 
 -- how many bytes come before an end
-unfoldable pub run : ℕ → List ℕ → ℕ
-run upto [] = 0
-run upto (b ∷ s) = when ends_at upto b then 0 else suc (run upto s)
+abbrev pub run : ℕ → List ℕ → ℕ
+run upto s = prefix_len (λ b. not (ends_at upto b)) s
 
 abbrev pub end_of : List ℕ → ℕ → ℕ → ℕ
 end_of s at upto = at + run upto (drop at s)
+
+-- the word at a place
+abbrev pub word_at : List ℕ → ℕ → List ℕ
+word_at s at = take (run 4 (drop at s)) (drop at s)
 
 abbrev pub after_end : List ℕ → ℕ → ℕ
 after_end s end = when end <? length s then end + 1 else end
@@ -35,21 +56,15 @@ pair_at s from k = digit_of (byte_at s (from + 2 * k)) * 16 + digit_of (byte_at 
 abbrev pub pairs_in : List ℕ → ℕ → ℕ → ℕ
 pairs_in s from to = when byte_at s from =? 45 then 0 else when to <? from then 0 else (to - from) / 2
 
-abbrev pub lesser : ℕ → ℕ → ℕ
-lesser a b = when a <? b then a else b
-
 -- n values from the k-th on
 unfoldable pub listed : (ℕ → ℕ) → ℕ → ℕ → List ℕ
 listed f k zero = []
 listed f k (suc n) = f k ∷ listed f (suc k) n
 
-abbrev pub is_digit_lem : ℕ → Bool
-is_digit_lem b = (48 ≤? b) && (b ≤? 57)
-
 -- the digits at the front, after those that made `sum`
 unfoldable pub value_of : ℕ → List ℕ → ℕ
 value_of sum [] = sum
-value_of sum (b ∷ s) = when is_digit_lem b then (when 999999999 <? sum then 0 else value_of (sum * 10 + digit_of b) s) else sum
+value_of sum (b ∷ s) = when is_ascii_digit b then (when 999999999 <? sum then 0 else value_of (sum * 10 + (b - 48)) s) else sum
 
 abbrev pub digits_at : List ℕ → ℕ → ℕ
 digits_at s from = value_of 0 (drop from s)
@@ -75,12 +90,33 @@ abbrev pub bytes_outcome : List ℕ → ℕ → List ℕ → ℕ × List ℕ
 bytes_outcome s from out =
     let end = end_of s from 2 in
     let once = pairs_in s from end in
-    let n = lesser (length out) (product once (times_at_lem s end)) in
+    let n = min (length out) (product once (times_at_lem s end)) in
     (n, listed (pair_over s from once) 0 n over out)
 
 -- 0 where 32 bits do not hold it
 abbrev pub count_at_lem : List ℕ → ℕ → ℕ
 count_at_lem s at = when 4294967295 <? digits_at s at then 0 else digits_at s at
+
+-- the same of a signed number
+abbrev pub signed_at : List ℕ → ℕ → ℤ
+signed_at s at =
+    when byte_at s at =? 45 then (when 2147483648 <? count_at_lem s (after_end s at) then pos 0 else pos 0 -ℤ pos (count_at_lem s (after_end s at)))
+    else when 2147483647 <? count_at_lem s at then pos 0 else pos (count_at_lem s at)
+
+-- the kind and the number that a cell is handed over as: nNULL, iINT, sREF, tTEXT, bBINARY, and kKIND:NUM
+abbrev pub kind_at : List ℕ → ℕ → ℕ
+kind_at s at =
+    when byte_at s at =? 110 then 0 else when byte_at s at =? 105 then 1 else when byte_at s at =? 115 then 2 else when byte_at s at =? 116 then 2 else when byte_at s at =? 98 then 3
+    else count_at_lem s (after_end s at) % 256
+
+abbrev pub cell_number_at : List ℕ → ℕ → ℤ
+cell_number_at s at =
+    when byte_at s at =? 110 then pos 0 else when byte_at s at =? 105 then signed_at s (after_end s at) else when byte_at s at =? 115 then signed_at s (after_end s at) else when byte_at s at =? 116 then pos 0 else when byte_at s at =? 98 then pos 0
+    else signed_at s (after_end s (end_of s at 1))
+
+-- a place of the same text
+abbrev pub IsPlace : Words → Words → ℕ → Type 0
+IsPlace r w at = (r.text.now ≡ w.text.now) × (r.at ≡ at)
 
 -- whether a word is `-`
 abbrev pub is_none : List ℕ → ℕ → Bool
@@ -99,6 +135,10 @@ next_at s at left = when 1 <? left then at else after_end s (end_of s at 3)
 
 abbrev pub next_times : List ℕ → ℕ → ℕ → ℕ
 next_times s at left = when 1 <? left then left - 1 else times_at_lem s (end_of s (after_end s (end_of s at 3)) 2)
+
+-- at most how many items a list has from an item on, which still stands `left` times, up to `end`
+abbrev pub items_left : List ℕ → ℕ → ℕ → ℕ → ℕ
+items_left s at left end = when at <? min end (length s) then (min end (length s) - at) * 10000000000 + left else 0
 
 -- more than 64 items that are all the same
 abbrev pub is_long_lem : ℕ → Bool → Bool

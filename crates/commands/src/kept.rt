@@ -1,72 +1,51 @@
 // Lists put into bytes, the low byte of each first, as `held` shows them: how many bytes they take. What has no room is left out.
-ghost use Rattle.std.specs.Prelude.{◌≡◌, ◌+◌, ◌≤◌, length};
+ghost use Rattle.std.specs.Prelude.{◌≡◌, ◌≤◌, length};
 
-use crate::numbers;
 use crate::words::product;
 
-pub fn bytes(list: &[u8], out: &mut [u8]) -> usize
-    ensures { (result ≤ length out.new) × (length out.new ≡ length out.old) }
-{
-    let mut i = 0;
-    while i < list.len() {
-        if out.len() <= i {
-            return i;
-        }
-        out[i] = list[i];
-        i += 1;
+// What a list holds that is put into bytes: its `N` bytes.
+pub trait Kept<const N: usize>: Copy {
+    fn bytes(self) -> [u8; N];
+}
+
+impl Kept<1> for u8 {
+    fn bytes(self) -> [u8; 1] {
+        self.to_le_bytes()
     }
-    i
 }
 
-fn two(out: &mut [u8], at: usize, n: u32)
-    requires { at + 2 ≤ length out.old }
-    ensures { length out.new ≡ length out.old }
-{
-    out[at] = (n % 256) as u8;
-    out[at + 1] = (n / 256 % 256) as u8;
+impl Kept<2> for u16 {
+    fn bytes(self) -> [u8; 2] {
+        self.to_le_bytes()
+    }
 }
 
-// What 16 bits hold is known of an argument, not of a place of a list.
-fn wide(unit: u16) -> u32 {
-    unit as u32
+impl Kept<4> for i32 {
+    fn bytes(self) -> [u8; 4] {
+        self.to_le_bytes()
+    }
 }
 
-pub fn units(list: &[u16], out: &mut [u8]) -> usize
+pub fn list<T: Kept<N>, const N: usize>(list: &[T], out: &mut [u8]) -> usize
     ensures { (result ≤ length out.new) × (length out.new ≡ length out.old) }
 {
     let mut at = 0;
-    for i in 0..list.len() {
-        if out.len() - at < 2 {
+    for item in list {
+        if out.len() - at < N {
             return at;
         }
-        two(out, at, wide(list[i]));
-        at += 2;
+        out[at..at + N].copy_from_slice(&item.bytes());
+        at += N;
     }
     at
 }
 
-pub fn numbers(list: &[i32], out: &mut [u8]) -> usize
-    ensures { (result ≤ length out.new) × (length out.new ≡ length out.old) }
-{
-    let mut at = 0;
-    for i in 0..list.len() {
-        if out.len() - at < 4 {
-            return at;
-        }
-        let n = numbers::bits(list[i]);
-        two(out, at, n % 65536);
-        two(out, at + 2, n / 65536);
-        at += 4;
-    }
-    at
-}
-
-// Cells: their kinds, then their numbers.
-pub fn cells(kinds: &[u8], list: &[i32], out: &mut [u8]) -> usize
+// Cells as the calls on tables leave them for C: their kinds, then their numbers.
+pub fn cells(kinds: &[u8], numbers: &[i32], out: &mut [u8]) -> usize
     ensures { length out.new ≡ length out.old }
 {
-    let n = bytes(kinds, out);
-    numbers(list, &mut out[n..]);
+    let n = list(kinds, out);
+    list(numbers, &mut out[n..]);
     product(n, 5)
 }
 
@@ -76,9 +55,5 @@ pub const FILL: u8 = 0xEE;
 pub fn fill(out: &mut [u8])
     ensures { length out.new ≡ length out.old }
 {
-    let mut i = 0;
-    while i < out.len() {
-        out[i] = FILL;
-        i += 1;
-    }
+    out.fill(FILL);
 }

@@ -7,4 +7,5 @@ pub mod lists;
 pub mod numbers;
 pub mod places;
 pub mod shown;
+pub mod values;
 pub mod words;

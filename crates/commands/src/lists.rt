@@ -1,144 +1,176 @@
 // Lists joined by commas, `-` for none. An item may be written `ITEM*N` for N of it.
-ghost use Rattle.std.specs.Prelude.{◌≡◌, ◌≤◌, length};
-ghost use Rattle.commands.specs.Words.{end_of, times_at_lem, is_none, first_at, first_times, next_at, next_times};
+ghost use Rattle.std.specs.Prelude.{◌≡◌, ◌≤◌, length, min, MatchOption};
+ghost use Rattle.commands.specs.Words.{end_of, times_at_lem, first_at, first_times, next_at, next_times, items_left, kind_at, cell_number_at, IsPlace};
+ghost use Rattle.cell.specs.Handed.{cell_of};
+ghost use Rattle.cell.specs.Kinds.{ref_kind, ref_number};
+ghost use Rattle.std.specs.Iterator.{at_most};
 
-use crate::numbers;
-use crate::words::{ITEM, KIND, TIMES, WORD, after, byte, end_of, times_at};
+use crate::words::{End, Words};
+use cell::{Cell, ValueRef};
 
-// Where an item stands, and how often from here on. Past the end of the word there is none.
+// An item, and how often it stands from here on. Past the end of the word there is none.
 #[derive(Clone, Copy)]
-pub struct Item {
-    pub at: usize,
+pub struct Item<'a> {
+    pub words: Words<'a>,
     pub left: u64,
 }
 
-// Whether a word is `-`, and not the sign of a number.
-pub fn is_none(s: &[u8], at: usize) -> bool
-    ensures { result ≡ is_none s.now at }
-{
-    if byte(s, at) != b'-' {
-        return false;
+impl<'a> Item<'a> {
+    fn at(words: Words<'a>) -> Item<'a>
+        ensures { IsPlace result.words words.entry words.entry.at × (result.left ≡ times_at_lem words.entry.text.now (end_of words.entry.text.now words.entry.at 2)) }
+    {
+        Item {
+            words,
+            left: words.end(End::Times).times(),
+        }
     }
-    after(s, at) == end_of(s, at, WORD)
+
+    pub fn first(words: Words<'a>) -> Item<'a>
+        ensures { IsPlace result.words words.entry (first_at words.entry.text.now words.entry.at) × (result.left ≡ first_times words.entry.text.now words.entry.at) }
+    {
+        if words.is_none() {
+            return Item {
+                words: words.end(End::Word),
+                left: 1,
+            };
+        }
+        Item::at(words)
+    }
+
+    pub fn next(self) -> Item<'a>
+        ensures { IsPlace result.words self.entry.words (next_at self.entry.words.text.now self.entry.words.at self.entry.left) × (result.left ≡ next_times self.entry.words.text.now self.entry.words.at self.entry.left) }
+    {
+        if self.left > 1 {
+            return Item {
+                left: self.left - 1,
+                ..self
+            };
+        }
+        Item::at(self.words.end(End::Item).after())
+    }
 }
 
-fn item_at(s: &[u8], at: usize) -> Item
-    ensures { (result.at ≡ at) × (result.left ≡ times_at_lem s.now (end_of s.now at 2)) }
-{
-    Item {
-        at,
-        left: times_at(s, end_of(s, at, TIMES)),
+// The items of the list here, one after another, as often as each stands.
+#[derive(Clone, Copy, Drop)]
+pub struct Items<'a> {
+    item: Item<'a>,
+    end: usize,
+}
+
+impl<'a> Items<'a> {
+    pub fn of(words: Words<'a>) -> Items<'a>
+        ensures { IsPlace result.item.words words.entry (first_at words.entry.text.now words.entry.at) × (result.item.left ≡ first_times words.entry.text.now words.entry.at) × (result.end ≡ end_of words.entry.text.now words.entry.at 4) }
+    {
+        Items {
+            item: Item::first(words),
+            end: words.end(End::Word).at,
+        }
     }
 }
 
-pub fn first(s: &[u8], at: usize) -> Item
-    ensures { (result.at ≡ first_at s.now at) × (result.left ≡ first_times s.now at) }
-{
-    if is_none(s, at) {
-        return Item {
-            at: end_of(s, at, WORD),
-            left: 1,
-        };
-    }
-    item_at(s, at)
-}
+impl<'a> Iterator for Items<'a> {
+    type Item = Words<'a>;
 
-pub fn next(s: &[u8], item: Item) -> Item
-    ensures { (result.at ≡ next_at s.now item.at item.left) × (result.left ≡ next_times s.now item.at item.left) }
-{
-    let left = item.left;
-    let at = item.at;
-    if left > 1 {
-        return Item { at, left: left - 1 };
+    ghost next_gives = { λ s r t. MatchOption r (min s.end (length s.item.words.text.now) ≤ s.item.words.at) (λ x. IsPlace x s.item.words s.item.words.at × IsPlace t.item.words x (next_at x.text.now x.at s.item.left) × (t.item.left ≡ next_times x.text.now x.at s.item.left) × (t.end ≡ s.end)) };
+
+    ghost remaining = { λ s. at_most (items_left s.item.words.text.now s.item.words.at s.item.left s.end) };
+
+    fn next(&mut self) -> Option<Words<'a>> {
+        let here = self.item.words;
+        if here.at >= self.end.min(here.text.len()) {
+            return None;
+        }
+        self.item = self.item.next();
+        Some(here)
     }
-    item_at(s, after(s, end_of(s, at, ITEM)))
 }
 
 // Where the item stands that has `n` before it.
-pub fn nth(s: &[u8], at: usize, n: usize) -> usize {
-    let mut item = first(s, at);
-    let mut before = n;
-    while before > 0 {
-        item = next(s, item);
-        before -= 1;
+pub fn nth<'a>(words: Words<'a>, n: usize) -> Words<'a> {
+    let mut item = Item::first(words);
+    for _ in 0..n {
+        item = item.next();
     }
-    item.at
+    item.words
 }
 
-// A cell as it is handed over.
-#[derive(Clone, Copy)]
-pub struct Cell {
+// A cell as it is handed over: a kind, known or not, and a number, looked at or not.
+#[derive(Clone, Copy, PartialEq, Eq)]
+pub struct Handed {
     pub kind: u8,
     pub number: i32,
 }
 
-// The kind of `kKIND:NUM`.
-fn handed(s: &[u8], at: usize) -> u8 {
-    (numbers::count_at(s, at) % 256) as u8
+impl From<ValueRef> for Handed {
+    ghost from_gives = { λ v h. (h.kind ≡ ref_kind v) × (h.number ≡ ref_number v) };
+
+    fn from(value: ValueRef) -> Handed {
+        Handed {
+            kind: value.kind(),
+            number: value.number(),
+        }
+    }
 }
 
 // `n`, `iNUM`, `sREF`, `b`, or `kKIND:NUM`; a text, `tBYTES`, is a Str with no number.
-pub fn cell_at(s: &[u8], at: usize) -> Cell {
-    let rest = after(s, at);
-    match byte(s, at) {
-        b'n' => Cell { kind: 0, number: 0 },
-        b'i' => Cell {
+pub fn handed_at(words: Words<'_>) -> Handed
+    ensures { (result.kind ≡ kind_at words.entry.text.now words.entry.at) × (result.number ≡ cell_number_at words.entry.text.now words.entry.at) }
+{
+    let rest = words.after();
+    match words.byte() {
+        b'n' => Handed { kind: 0, number: 0 },
+        b'i' => Handed {
             kind: 1,
-            number: numbers::signed_at(s, rest),
+            number: rest.signed(),
         },
-        b's' => Cell {
+        b's' => Handed {
             kind: 2,
-            number: numbers::signed_at(s, rest),
+            number: rest.signed(),
         },
-        b't' => Cell { kind: 2, number: 0 },
-        b'b' => Cell { kind: 3, number: 0 },
-        _ => Cell {
-            kind: handed(s, rest),
-            number: numbers::signed_at(s, after(s, end_of(s, at, KIND))),
+        b't' => Handed { kind: 2, number: 0 },
+        b'b' => Handed { kind: 3, number: 0 },
+        _ => Handed {
+            kind: (rest.count() % 256) as u8,
+            number: words.end(End::Kind).after().signed(),
         },
     }
 }
 
-// The cells of a list: how many there are.
-pub fn cells_in(s: &[u8], at: usize, kinds: &mut [u8], values: &mut [i32]) -> usize
+// The same, read.
+pub fn cell_at(words: Words<'_>) -> Cell
+    ensures { result ≡ cell_of (kind_at words.entry.text.now words.entry.at) (cell_number_at words.entry.text.now words.entry.at) }
+{
+    let handed = handed_at(words);
+    Cell::new(handed.kind, handed.number)
+}
+
+// The cells of a list: how many there are. Their kinds and numbers lie apart, as the calls on tables take them for C.
+pub fn cells_in(words: Words<'_>, kinds: &mut [u8], values: &mut [i32]) -> usize
     ensures { (result ≤ length kinds.new) × (result ≤ length values.new) }
 {
-    let end = end_of(s, at, WORD);
-    let mut item = first(s, at);
-    let mut n = 0;
-    while n < kinds.len() {
-        let place = item.at;
-        if place >= end {
-            return n;
-        }
-        if n >= values.len() {
-            return n;
-        }
-        let cell = cell_at(s, place);
-        let number = cell.number;
-        kinds[n] = cell.kind;
-        values[n] = number;
-        item = next(s, item);
-        n += 1;
+    let mut items = Items::of(words);
+    let places = kinds.len().min(values.len());
+    for i in 0..places {
+        let Some(item) = items.next() else {
+            return i;
+        };
+        let cell = handed_at(item);
+        kinds[i] = cell.kind;
+        values[i] = cell.number;
     }
-    n
+    places
 }
 
 // Signed numbers of a list: how many there are.
-pub fn signed_in(s: &[u8], at: usize, out: &mut [i32]) -> usize
+pub fn signed_in(words: Words<'_>, out: &mut [i32]) -> usize
     ensures { result ≤ length out.new }
 {
-    let end = end_of(s, at, WORD);
-    let mut item = first(s, at);
-    let mut n = 0;
-    while n < out.len() {
-        let place = item.at;
-        if place >= end {
-            return n;
-        }
-        out[n] = numbers::signed_at(s, place);
-        item = next(s, item);
-        n += 1;
+    let mut items = Items::of(words);
+    for (i, place) in out.iter_mut().enumerate() {
+        let Some(item) = items.next() else {
+            return i;
+        };
+        *place = item.signed();
     }
-    n
+    out.len()
 }

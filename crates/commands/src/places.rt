@@ -2,35 +2,8 @@
 // asks.
 ghost use Rattle.std.specs.Prelude.{◌≡◌, ◌≤◌, length, take};
 
-fn fewer(a: usize, b: usize) -> usize
-    ensures { (result ≤ a) × (result ≤ b) }
-{
-    if a < b {
-        return a;
-    }
-    b
-}
-
-pub fn bytes(list: &[u8], n: usize) -> usize
+pub fn of<T>(list: &[T], n: usize) -> usize
     ensures { (result ≤ length list.now) × (result ≡ length (take result list.now)) }
 {
-    fewer(list.len(), n)
-}
-
-pub fn units(list: &[u16], n: usize) -> usize
-    ensures { (result ≤ length list.now) × (result ≡ length (take result list.now)) }
-{
-    fewer(list.len(), n)
-}
-
-pub fn lengths(list: &[u32], n: usize) -> usize
-    ensures { (result ≤ length list.now) × (result ≡ length (take result list.now)) }
-{
-    fewer(list.len(), n)
-}
-
-pub fn numbers(list: &[i32], n: usize) -> usize
-    ensures { (result ≤ length list.now) × (result ≡ length (take result list.now)) }
-{
-    fewer(list.len(), n)
+    list.len().min(n)
 }

@@ -8,7 +8,7 @@ ghost use Rattle.common.specs.Refusals.{number_of, where_of};
 ghost use Rattle.common.specs.Choice.{when◌then◌else◌};
 ghost use Rattle.commands.specs.Words.{is_long_lem};
 
-use crate::numbers;
+use crate::lists::Handed;
 use common::{Place, Refusal};
 use std::io;
 use std::io::Write;
@@ -31,74 +31,19 @@ pub fn flag<W: Write>(w: &mut W, on: bool) -> io::Result<()>
     ensures answers { IfOk result (λ u. u ≡ tt) }
     ensures written { OnOk result (Appends (W.contents w.old) (W.contents w.new) ((when on then 49 else 48) ∷ [])) }
 {
-    if on {
-        return say(w, b"1");
-    }
-    say(w, b"0")
+    say(w, if on { b"1" } else { b"0" })
 }
 
-// What a list has in its bytes, the low byte of each first.
-#[derive(Clone, Copy)]
-pub enum Form {
-    Byte,
-    Unit,
-}
-
-fn width(form: Form) -> usize
-    ensures { (0 < result) × (result ≤ 2) }
-{
-    match form {
-        Form::Byte => 1,
-        Form::Unit => 2,
-    }
-}
-
-// Two hexadecimal digits for each byte, the high byte first.
-fn item<W: Write>(w: &mut W, list: &[u8], at: usize, width: usize) -> io::Result<()>
-    requires { width ≤ 2 }
-{
-    let n = little_endian::read(list, at, width);
-    match width {
-        0 => write!(w, "{n:x}"),
-        1 => write!(w, "{n:02x}"),
-        _ => write!(w, "{n:04x}"),
-    }
-}
-
-fn items<W: Write>(w: &mut W, list: &[u8], width: usize) -> io::Result<()>
-    requires { (0 < width) × (width ≤ 2) }
-{
-    let mut at = 0;
-    while at < list.len() {
-        item(w, list, at, width)?;
-        if list.len() - at < width {
-            return Ok(());
-        }
-        at += width;
-    }
-    Ok(())
-}
-
-// Whether each place holds what the one before it holds.
-pub fn same(list: &[u8], width: usize) -> bool {
-    let mut at = width;
-    while at < list.len() {
-        if list[at] != list[at - width] {
-            return false;
-        }
-        at += 1;
-    }
-    true
+// Whether each item is what the one before it is.
+pub fn same<T: PartialEq>(list: &[T]) -> bool {
+    list.windows(2).all(|pair| pair[0] == pair[1])
 }
 
 // More than 64 items that are all the same are written once.
 pub fn is_long(items: usize, same: bool) -> bool
     ensures { result ≡ is_long_lem items same }
 {
-    if same {
-        return items > 64;
-    }
-    false
+    same && items > 64
 }
 
 // The mark of a repetition.
@@ -106,71 +51,96 @@ pub fn times<W: Write>(w: &mut W, n: usize) -> io::Result<()>
     ensures answers { IfOk result (λ u. u ≡ tt) }
     ensures written { OnOk result (Appends (W.contents w.old) (W.contents w.new) (42 ∷ decimal n)) }
 {
-    say(w, b"*")?;
-    number(w, n)
+    write!(w, "*{n}")
 }
 
-// `-` for none.
-pub fn list<W: Write>(w: &mut W, list: &[u8], form: Form) -> io::Result<()>
+// What writes the item of a list that stands at a place. A trait, since a closure would have to be callable, and a public function here
+// asks nothing.
+pub trait Show<T> {
+    fn show<W: Write>(&self, w: &mut W, at: usize, item: T) -> io::Result<()>;
+}
+
+// A list, by what writes its items; `-` for none.
+pub fn list<W: Write, T: Copy + PartialEq, S: Show<T>>(
+    w: &mut W,
+    list: &[T],
+    items: &S,
+) -> io::Result<()>
     ensures { IfOk result (λ u. u ≡ tt) }
 {
-    if list.len() == 0 {
+    if list.is_empty() {
         return say(w, b"-");
     }
-    let wide = width(form);
-    if is_long(list.len() / wide, same(list, wide)) {
-        item(w, list, 0, wide)?;
-        return times(w, list.len() / wide);
+    if is_long(list.len(), same(list)) {
+        items.show(w, 0, list[0])?;
+        return times(w, list.len());
     }
-    items(w, list, wide)
+    for (at, item) in list.iter().enumerate() {
+        items.show(w, at, *item)?;
+    }
+    Ok(())
+}
+
+// Two hexadecimal digits for a byte, four for a unit, the high byte first.
+pub struct Hex;
+
+impl Show<u8> for Hex {
+    fn show<W: Write>(&self, w: &mut W, _at: usize, item: u8) -> io::Result<()> {
+        write!(w, "{item:02x}")
+    }
+}
+
+impl Show<u16> for Hex {
+    fn show<W: Write>(&self, w: &mut W, _at: usize, item: u16) -> io::Result<()> {
+        write!(w, "{item:04x}")
+    }
+}
+
+pub fn bytes<W: Write>(w: &mut W, bytes: &[u8]) -> io::Result<()>
+    ensures { IfOk result (λ u. u ≡ tt) }
+{
+    list(w, bytes, &Hex)
+}
+
+pub fn units<W: Write>(w: &mut W, units: &[u16]) -> io::Result<()>
+    ensures { IfOk result (λ u. u ≡ tt) }
+{
+    list(w, units, &Hex)
 }
 
 // Bytes as a part of a word.
-pub fn plain<W: Write>(w: &mut W, list: &[u8]) -> io::Result<()>
+pub fn plain<W: Write>(w: &mut W, bytes: &[u8]) -> io::Result<()>
     ensures { IfOk result (λ u. u ≡ tt) }
 {
-    items(w, list, 1)
+    for b in bytes {
+        write!(w, "{b:02x}")?;
+    }
+    Ok(())
 }
 
 // A text of a value.
-pub fn text<W: Write>(w: &mut W, list: &[u8]) -> io::Result<()>
+pub fn text<W: Write>(w: &mut W, bytes: &[u8]) -> io::Result<()>
     ensures { IfOk result (λ u. u ≡ tt) }
 {
     say(w, b"t")?;
-    if list.len() == 0 {
+    if bytes.is_empty() {
         say(w, b"-")?;
     }
-    plain(w, list)
-}
-
-pub fn bytes<W: Write>(w: &mut W, list: &[u8]) -> io::Result<()>
-    ensures { IfOk result (λ u. u ≡ tt) }
-{
-    crate::shown::list(w, list, Form::Byte)
-}
-
-fn marked<W: Write>(w: &mut W, mark: &[u8], n: i32) -> io::Result<()>
-    ensures { OnOk result (Appends (W.contents w.old) (W.contents w.new) (mark.now ++ signed_decimal n)) }
-{
-    say(w, mark)?;
-    numbers::show(w, n)
+    plain(w, bytes)
 }
 
 // A cell as it is handed over: its kind and its number.
-pub fn cell<W: Write>(w: &mut W, kind: u8, number: i32) -> io::Result<()>
+pub fn cell<W: Write>(w: &mut W, cell: Handed) -> io::Result<()>
     ensures answers { IfOk result (λ u. u ≡ tt) }
-    ensures written { OnOk result (Appends (W.contents w.old) (W.contents w.new) (cell_shown kind number)) }
+    ensures written { OnOk result (Appends (W.contents w.old) (W.contents w.new) (cell_shown cell.kind cell.number)) }
 {
+    let Handed { kind, number } = cell;
     match kind {
-        0 => say(w, b"n"),
-        1 => marked(w, b"i", number),
-        2 => marked(w, b"s", number),
-        3 => say(w, b"b"),
-        _ => {
-            say(w, b"k")?;
-            crate::shown::number(w, kind as usize)?;
-            marked(w, b":", number)
-        }
+        0 => write!(w, "n"),
+        1 => write!(w, "i{number}"),
+        2 => write!(w, "s{number}"),
+        3 => write!(w, "b"),
+        _ => write!(w, "k{kind}:{number}"),
     }
 }
 
@@ -178,18 +148,13 @@ pub fn cell<W: Write>(w: &mut W, kind: u8, number: i32) -> io::Result<()>
 fn panics(n: u32) -> bool
     ensures { result ≡ is_panic n }
 {
-    match n {
-        9..=12 => true,
-        15 => true,
-        _ => false,
-    }
+    matches!(n, 9..=12 | 15)
 }
 
 fn spaced<W: Write>(w: &mut W, n: usize) -> io::Result<()>
     ensures { OnOk result (Appends (W.contents w.old) (W.contents w.new) (spaced n)) }
 {
-    say(w, b" ")?;
-    number(w, n)
+    write!(w, " {n}")
 }
 
 pub fn refused<W: Write>(w: &mut W, why: Refusal) -> io::Result<()>
@@ -197,11 +162,7 @@ pub fn refused<W: Write>(w: &mut W, why: Refusal) -> io::Result<()>
     ensures written { OnOk result (Appends (W.contents w.old) (W.contents w.new) (refused_shown (number_of why) (where_of why))) }
 {
     let n = why.number();
-    if panics(n) {
-        say(w, b"panic")?;
-    } else {
-        say(w, b"error")?;
-    }
+    say(w, if panics(n) { b"panic" } else { b"error" })?;
     spaced(w, n as usize)?;
     match why.place() {
         Place::Nowhere => Ok(()),

@@ -1,6 +1,6 @@
 -- Document 01, "Refusal numbers": the number and the place of each refusal.
-use Rattle.std.specs.Prelude.{ℕ}
-use Rattle.common.specs.Answers.{Place, nowhere, column, cell, Answer, refused}
+use Rattle.std.specs.Prelude.{ℕ, Result, Ok, Err}
+use Rattle.common.specs.Answers.{Place, nowhere, column, cell, Answer, gives, refused}
 use Rattle.common.specs.declared.refusal.Refusal.{Refusal}
 use Rattle.common.specs.declared.refusal.Refusal.TheVariants as why
 use Rattle.common.specs.declared.refusal.Place.{Place as CodePlace}
@@ -69,3 +69,12 @@ place_as (Cell r c) = cell r c
 -- the answer that a refusal is
 abbrev pub refused_by : {A : Type 0} → Refusal → Answer A
 refused_by x = refused (number_of x) (where_of x)
+
+-- what a call of the code answers, in document 01's terms; f reads what it gives
+abbrev pub answer_as : {T A : Type 0} → (T → A) → Result T Refusal → Answer A
+answer_as f (Ok x) = gives (f x)
+answer_as f (Err why) = refused_by why
+
+-- the same where what it gives is read as it is
+abbrev pub answered : {A : Type 0} → Result A Refusal → Answer A
+answered r = answer_as (λ x. x) r

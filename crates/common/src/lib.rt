@@ -8,4 +8,4 @@ pub mod sizes;
 mod string_ref;
 
 pub use crate::refusal::{Place, Refusal};
-pub use crate::string_ref::{Made, StringRef};
+pub use crate::string_ref::StringRef;

@@ -3,7 +3,7 @@ ghost use Rattle.std.specs.Prelude.{◌≡◌};
 ghost use Rattle.common.specs.Refusals.{number_of, where_of, place_as};
 
 // Why a call was refused, in the order of document 01's table. Places are 0-based.
-#[derive(Clone, Copy)]
+#[derive(Clone, Copy, Debug, PartialEq, Eq)]
 pub enum Refusal {
     PoolStreamShort,
     EntryCut,
@@ -33,7 +33,7 @@ pub enum Refusal {
 }
 
 // Where in a table a refusal stands.
-#[derive(Clone, Copy)]
+#[derive(Clone, Copy, Debug, PartialEq, Eq)]
 pub enum Place {
     Nowhere,
     Column(usize),

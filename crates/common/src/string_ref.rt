@@ -5,15 +5,8 @@ ghost use Rattle.common.specs.Refs.{made_as, reference};
 
 use crate::refusal::Refusal;
 
-#[derive(Clone, Copy)]
+#[derive(Clone, Copy, Debug, PartialEq, Eq)]
 pub struct StringRef(pub i32);
-
-// What the checked maker answers.
-#[derive(Clone, Copy)]
-pub enum Made {
-    Ref(StringRef),
-    Refused(Refusal),
-}
 
 impl StringRef {
     pub const MIN: i32 = 1;
@@ -21,15 +14,12 @@ impl StringRef {
     pub const MAX: i32 = 16_777_215;
 
     // The reference with a number from MIN to MAX.
-    pub fn new(number: i32) -> Made
+    pub fn new(number: i32) -> Result<StringRef, Refusal>
         ensures { made_as result ≡ reference nowhere number }
     {
-        if number < StringRef::MIN {
-            return Made::Refused(Refusal::ReferenceRange);
+        match number {
+            StringRef::MIN..=StringRef::MAX => Ok(StringRef(number)),
+            _ => Err(Refusal::ReferenceRange),
         }
-        if number > StringRef::MAX {
-            return Made::Refused(Refusal::ReferenceRange);
-        }
-        Made::Ref(StringRef(number))
     }
 }

@@ -4,12 +4,6 @@
 use std::io;
 
 fn main(rt: HostRuntime) -> io::Result<()> {
-    let mut s = list_room();
-    let used = answers::read_in(&mut rt.reader(), &mut s)?;
-    answers::lines(&mut io::writer(&rt), &s[..used])
-}
-
-// An array that a call gives back is known by its size, and not place by place.
-fn list_room() -> [u8; 32768] {
-    [0u8; 32768]
+    let mut room = [0u8; 32_768];
+    answers::all(&mut rt.reader(), &mut io::writer(&rt), &mut room)
 }

@@ -3,9 +3,6 @@ use Rattle.std.specs.Prelude.{ℕ, zero, suc, ◌+◌, ◌*◌, ◌/◌, ◌%◌
 use Rattle.common.specs.Choice.{when◌then◌else◌, ◌<?◌}
 use Rattle.common.specs.Lists.{over_at}
 use Rattle.common.specs.Answers.{Answer, gives, refused, nowhere, outcome}
-use Rattle.common.specs.Refusals.{refused_by}
-use Rattle.little_endian.specs.declared.Written.{Written}
-use Rattle.little_endian.specs.declared.Written.TheVariants.{Bytes, Refused}
 
 -- the lowest bytes of n, as many as the width says
 abbrev pub bytes_of : ℕ → ℕ → List ℕ
@@ -27,7 +24,3 @@ put_answer n width out at = when length out <? at + width then refused 7 nowhere
 
 abbrev pub put_outcome : ℕ → ℕ → List ℕ → ℕ → Answer ℕ × List ℕ
 put_outcome n width out at = outcome out (put_answer n width out at)
-
-abbrev pub written_as : Written → Answer ℕ
-written_as (Bytes n) = gives n
-written_as (Refused x) = refused_by x

@@ -1,4 +1,4 @@
 -- What the proofs of several functions use.
-mod Gets
-mod Handed
-mod UnknownKinds
+pub mod Handed
+pub mod Shown
+pub mod UnknownKinds

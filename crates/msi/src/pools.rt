@@ -1,7 +1,8 @@
 // The string pool. Its state is handed in and, where a call changes it, handed out; its rooms are lent to each call.
 ghost use Rattle.std.specs.Prelude.{◌≡◌};
 ghost use Rattle.common.specs.Answers.{nowhere, outcome, written_to};
-ghost use Rattle.stringpool.specs.Pool.{rooms};
+ghost use Rattle.common.specs.Refusals.{answered};
+ghost use Rattle.stringpool.specs.Pool.{rooms, rooms_of};
 ghost use Rattle.common.specs.Refs.{reference};
 ghost use Rattle.stringpool.specs.Load.{load_outcome};
 ghost use Rattle.stringpool.specs.Pages.{new_answer, set_page_answer};
@@ -13,25 +14,22 @@ ghost use Rattle.c_types.specs.Answers.{refusal_in, count_in, answered_as};
 ghost use Rattle.c_types.specs.Pools.{pool_in, taken_in, reference_in};
 ghost use Rattle.msi.specs.Texts.{copied_outcome};
 
-use c_types::answers::{Count, PoolAnswer, Reference, Refused, TakeAnswer, none, refused_count};
-use c_types::pools::{
-    from_counted, from_made, from_pooled, from_showable, from_taken, from_written,
-};
+use c_types::answers::{Count, PoolAnswer, Reference, Refused, TakeAnswer, told};
 use common::Refusal;
-use stringpool::{Showable, StringPool, StringRef};
+use stringpool::{Rooms, RoomsMut, StringPool, StringRef};
 
 #[unsafe(no_mangle)]
 pub extern "C" fn strandroost_string_ref(number: i32) -> Reference
     ensures { result ≡ reference_in (reference nowhere number) }
 {
-    from_made(StringRef::new(number))
+    Reference::from(told(StringRef::new(number)))
 }
 
 #[unsafe(no_mangle)]
 pub extern "C" fn strandroost_new(codepage: u32) -> PoolAnswer
     ensures { result ≡ pool_in (new_answer codepage) }
 {
-    from_pooled(StringPool::new(codepage))
+    PoolAnswer::from(told(StringPool::new(codepage)))
 }
 
 #[unsafe(no_mangle)]
@@ -45,7 +43,12 @@ pub extern "C" fn strandroost_load(
     ensures { (result, rooms lengths.new counts.new text.new)
         ≡ answered_as pool_in (load_outcome pool.now «data».now (rooms lengths.old counts.old text.old)) }
 {
-    from_pooled(StringPool::load(pool, data, lengths, counts, text))
+    let mut rooms = RoomsMut {
+        lengths,
+        counts,
+        text,
+    };
+    PoolAnswer::from(told(StringPool::load(pool, data, &mut rooms)))
 }
 
 #[unsafe(no_mangle)]
@@ -58,7 +61,12 @@ pub extern "C" fn strandroost_set_codepage(
 ) -> PoolAnswer
     ensures { result ≡ pool_in (set_page_answer pool (rooms lengths.now counts.now text.now) codepage) }
 {
-    from_pooled(pool.set_codepage(lengths, counts, text, codepage))
+    let rooms = Rooms {
+        lengths,
+        counts,
+        text,
+    };
+    PoolAnswer::from(told(pool.set_codepage(rooms, codepage)))
 }
 
 #[unsafe(no_mangle)]
@@ -71,7 +79,12 @@ pub extern "C" fn strandroost_refcount(
 ) -> Count
     ensures { result ≡ count_in (refcount_answer pool (rooms lengths.now counts.now text.now) number) }
 {
-    from_counted(pool.refcount(lengths, counts, text, number))
+    let rooms = Rooms {
+        lengths,
+        counts,
+        text,
+    };
+    Count::from(told(pool.refcount(rooms, number)))
 }
 
 // The refusal of showing a reference, or none.
@@ -85,22 +98,36 @@ pub extern "C" fn strandroost_get_refusal(
 ) -> Refused
     ensures { result ≡ refusal_in (show_answer pool (rooms lengths.now counts.now text.now) number) }
 {
-    from_showable(pool.get_refusal(lengths, counts, text, number))
+    let rooms = Rooms {
+        lengths,
+        counts,
+        text,
+    };
+    Refused::from(told(pool.get_refusal(rooms, number)))
 }
 
 // A part of the text room, copied to the output whole or not at all.
-pub(crate) fn copied(part: &[u8], out: &mut [u8]) -> Count
-    ensures { (result, out.new) ≡ answered_as count_in (outcome out.old (written_to out.old part.now)) }
+pub(crate) fn copied(part: &[u8], out: &mut [u8]) -> Result<usize, Refusal>
+    ensures { (answered result, out.new) ≡ outcome out.old (written_to out.old part.now) }
 {
-    if out.len() < part.len() {
-        return refused_count(Refusal::OutputRoom);
+    let bytes = part.len();
+    if out.len() < bytes {
+        return Err(Refusal::OutputRoom);
     }
-    let value = part.len();
-    out[..value].copy_from_slice(part);
-    Count {
-        refused: none(),
-        value,
-    }
+    out[..bytes].copy_from_slice(part);
+    Ok(bytes)
+}
+
+fn text_to(
+    pool: StringPool,
+    rooms: Rooms<'_, '_>,
+    number: i32,
+    out: &mut [u8],
+) -> Result<usize, Refusal>
+    ensures { (answered result, out.new) ≡ copied_outcome (show_answer pool (rooms_of rooms.entry) number) out.old }
+{
+    pool.get_refusal(rooms, number)?;
+    copied(pool.get(rooms, number), out)
 }
 
 // The text of a reference. An exported call cannot hand out a part of a lent room, so the text is copied to an output.
@@ -115,11 +142,12 @@ pub extern "C" fn strandroost_get(
 ) -> Count
     ensures { (result, out.new) ≡ answered_as count_in (copied_outcome (show_answer pool (rooms lengths.now counts.now text.now) number) out.old) }
 {
-    let shown = pool.get_refusal(lengths, counts, text, number);
-    match shown {
-        Showable::Refused(why) => refused_count(why),
-        Showable::Yes => copied(pool.get(lengths, counts, text, number), out),
-    }
+    let rooms = Rooms {
+        lengths,
+        counts,
+        text,
+    };
+    Count::from(told(text_to(pool, rooms, number, out)))
 }
 
 // The default: an equal entry that can count up, else the first free one, else a new one.
@@ -134,7 +162,12 @@ pub extern "C" fn strandroost_incref(
     ensures { (result, rooms lengths.new counts.new text.new)
         ≡ answered_as taken_in (take_outcome equal_then_free_lem pool (rooms lengths.old counts.old text.old) new.now) }
 {
-    from_taken(pool.incref(lengths, counts, text, new))
+    let mut rooms = RoomsMut {
+        lengths,
+        counts,
+        text,
+    };
+    TakeAnswer::from(told(pool.incref(&mut rooms, new)))
 }
 
 // Document 01's choice, the crate's: the first entry that is free or equal.
@@ -149,7 +182,12 @@ pub extern "C" fn strandroost_incref_first(
     ensures { (result, rooms lengths.new counts.new text.new)
         ≡ answered_as taken_in (take_outcome first_free_or_equal pool (rooms lengths.old counts.old text.old) new.now) }
 {
-    from_taken(pool.incref_first(lengths, counts, text, new))
+    let mut rooms = RoomsMut {
+        lengths,
+        counts,
+        text,
+    };
+    TakeAnswer::from(told(pool.incref_first(&mut rooms, new)))
 }
 
 #[unsafe(no_mangle)]
@@ -163,7 +201,12 @@ pub extern "C" fn strandroost_decref(
     ensures { (result, rooms lengths.new counts.new text.new)
         ≡ answered_as pool_in (drop_outcome pool (rooms lengths.old counts.old text.old) number) }
 {
-    from_pooled(pool.decref(lengths, counts, text, number))
+    let mut rooms = RoomsMut {
+        lengths,
+        counts,
+        text,
+    };
+    PoolAnswer::from(told(pool.decref(&mut rooms, number)))
 }
 
 #[unsafe(no_mangle)]
@@ -178,7 +221,12 @@ pub extern "C" fn strandroost_write_pool(
         ≡ answered_as count_in (write_outcome pool (rooms lengths.now counts.now text.now)
         (pool_bytes pool (rooms lengths.now counts.now text.now)) out.old) }
 {
-    from_written(pool.write_pool(lengths, counts, text, out))
+    let rooms = Rooms {
+        lengths,
+        counts,
+        text,
+    };
+    Count::from(told(pool.write_pool(rooms, out)))
 }
 
 #[unsafe(no_mangle)]
@@ -193,5 +241,10 @@ pub extern "C" fn strandroost_write_data(
         ≡ answered_as count_in (write_outcome pool (rooms lengths.now counts.now text.now)
         (data_bytes pool (rooms lengths.now counts.now text.now)) out.old) }
 {
-    from_written(pool.write_data(lengths, counts, text, out))
+    let rooms = Rooms {
+        lengths,
+        counts,
+        text,
+    };
+    Count::from(told(pool.write_data(rooms, out)))
 }

@@ -1,21 +1,19 @@
 // Values and the string pool: a value's kind and number, its text beside it.
 ghost use Rattle.std.specs.Prelude.{◌≡◌};
 ghost use Rattle.common.specs.Answers.{outcome};
-ghost use Rattle.stringpool.specs.Pool.{rooms};
+ghost use Rattle.stringpool.specs.Pool.{rooms, rooms_of};
 ghost use Rattle.stringpool.specs.Take.{equal_then_free_lem, first_free_or_equal};
-ghost use Rattle.c_types.specs.Answers.{count_in, answered_as};
+ghost use Rattle.c_types.specs.Answers.{count_in, answered_as, told_lem};
 ghost use Rattle.c_types.specs.Pools.{pool_in};
 ghost use Rattle.c_types.specs.Tables.{cell_in};
 ghost use Rattle.c_types.specs.Values.{create_by, remove_by, shown_by, text_by, created_in};
 ghost use Rattle.msi.specs.Texts.{copied_outcome};
 
 use crate::pools::copied;
-use c_types::answers::{
-    CellAnswer, Count, CreateAnswer, PoolAnswer, is_unknown, refused_count, unknown_kind,
-};
-use c_types::values::{from_created, from_removed, from_shown, plain_in, value_in};
-use pool_values::Shown;
-use stringpool::StringPool;
+use c_types::answers::{CellAnswer, Count, CreateAnswer, PoolAnswer, Refused, known, of_kind};
+use c_types::values::{plain_in, value_in};
+use common::Place;
+use stringpool::{Rooms, RoomsMut, StringPool};
 
 // A text is taken into the pool, by the default choice; any other value leaves it as it is.
 #[unsafe(no_mangle)]
@@ -32,9 +30,13 @@ pub extern "C" fn strandroost_create(
         ≡ answered_as created_in (outcome (rooms lengths.old counts.old text.old)
         (create_by equal_then_free_lem kind number new.now pool (rooms lengths.old counts.old text.old))) }
 {
-    let value = plain_in(kind, number);
-    let answer = pool_values::create(value, new, pool, lengths, counts, text);
-    from_created(answer, kind)
+    let mut rooms = RoomsMut {
+        lengths,
+        counts,
+        text,
+    };
+    let created = pool_values::create(plain_in(kind, number), new, pool, &mut rooms);
+    CreateAnswer::from(of_kind(kind, created))
 }
 
 // The same by document 01's choice.
@@ -52,9 +54,13 @@ pub extern "C" fn strandroost_create_first(
         ≡ answered_as created_in (outcome (rooms lengths.old counts.old text.old)
         (create_by first_free_or_equal kind number new.now pool (rooms lengths.old counts.old text.old))) }
 {
-    let value = plain_in(kind, number);
-    let answer = pool_values::create_first(value, new, pool, lengths, counts, text);
-    from_created(answer, kind)
+    let mut rooms = RoomsMut {
+        lengths,
+        counts,
+        text,
+    };
+    let created = pool_values::create_first(plain_in(kind, number), new, pool, &mut rooms);
+    CreateAnswer::from(of_kind(kind, created))
 }
 
 // A reference is dropped; any other value leaves the pool as it is.
@@ -71,9 +77,13 @@ pub extern "C" fn strandroost_remove(
         ≡ answered_as pool_in (outcome (rooms lengths.old counts.old text.old)
         (remove_by kind number pool (rooms lengths.old counts.old text.old))) }
 {
-    let value = value_in(kind, number);
-    let answer = pool_values::remove(value, pool, lengths, counts, text);
-    from_removed(answer, kind)
+    let mut rooms = RoomsMut {
+        lengths,
+        counts,
+        text,
+    };
+    let removed = pool_values::remove(value_in(kind, number), pool, &mut rooms);
+    PoolAnswer::from(of_kind(kind, removed))
 }
 
 // The value that a cell stands for; where it is a text, `strandroost_to_text` copies it.
@@ -88,9 +98,13 @@ pub extern "C" fn strandroost_to_value(
 ) -> CellAnswer
     ensures { result ≡ cell_in (shown_by kind number pool (rooms lengths.now counts.now text.now)) }
 {
-    let value = value_in(kind, number);
-    let answer = pool_values::to_value(value, pool, lengths, counts, text);
-    from_shown(answer, kind)
+    let rooms = Rooms {
+        lengths,
+        counts,
+        text,
+    };
+    let shown = pool_values::to_value(value_in(kind, number), pool, rooms);
+    CellAnswer::from(of_kind(kind, shown))
 }
 
 // The text of a cell that holds a reference, none of any other.
@@ -107,21 +121,25 @@ pub extern "C" fn strandroost_to_text(
     ensures { (result, out.new)
         ≡ answered_as count_in (copied_outcome (text_by kind number pool (rooms lengths.now counts.now text.now)) out.old) }
 {
+    let rooms = Rooms {
+        lengths,
+        counts,
+        text,
+    };
+    Count::from(text_to(kind, number, pool, rooms, out))
+}
+
+fn text_to(
+    kind: u8,
+    number: i32,
+    pool: StringPool,
+    rooms: Rooms<'_, '_>,
+    out: &mut [u8],
+) -> Result<usize, Refused>
+    ensures { (result, out.new) ≡ answered_as told_lem (copied_outcome (text_by kind number pool (rooms_of rooms.entry)) out.old) }
+{
     let value = value_in(kind, number);
-    let shown = pool_values::to_value(value, pool, lengths, counts, text);
-    match shown {
-        Shown::Refused(why) => refused_count(why),
-        Shown::Value(_) => {
-            if is_unknown(kind) {
-                return Count {
-                    refused: unknown_kind(),
-                    value: 0,
-                };
-            }
-            copied(
-                pool_values::to_text(value, pool, lengths, counts, text),
-                out,
-            )
-        }
-    }
+    pool_values::to_value(value, pool, rooms)?;
+    known(kind, Place::Nowhere)?;
+    Ok(copied(pool_values::to_text(value, pool, rooms), out)?)
 }

@@ -3,174 +3,109 @@
 
 ghost use Rattle.std.specs.Prelude.{◌≡◌, ◌≤◌, length, IfOk};
 
-use commands::shown::Form;
-use commands::words::{byte, front, next, product};
+use commands::words::{Words, front, product};
 use commands::{kept, numbers, places, shown};
-use common::{Made, StringRef};
-use pool_commands::bytes_at;
+use common::StringRef;
 use room_commands::Desk;
 use std::io;
 use std::io::Write;
-use streamname::{Decoded, Encoded, Validity};
-
-fn wide(b: u8) -> u16
-    ensures { result ≤ 255 }
-{
-    b as u16
-}
-
-fn unit(bytes: &[u8], n: usize) -> u16 {
-    if n < bytes.len() / 2 {
-        return wide(byte(bytes, 2 * n)) * 256 + wide(byte(bytes, 2 * n + 1));
-    }
-    0
-}
 
 // The units of bytes, high byte first: how many there are.
 fn units_in(bytes: &[u8], out: &mut [u16]) -> usize
     ensures { result ≤ length out.new }
 {
-    let mut n = 0;
-    while n < out.len() {
-        if n >= bytes.len() / 2 {
-            return n;
-        }
-        out[n] = unit(bytes, n);
-        n += 1;
+    let n = places::of(out, bytes.len() / 2);
+    for (unit, pair) in out.iter_mut().zip(bytes.chunks_exact(2)) {
+        *unit = u16::from_be_bytes([pair[0], pair[1]]);
     }
     n
 }
 
-// The units of the word at `at`.
-fn name_in(s: &[u8], at: usize, out: &mut [u16]) -> usize
+// The units of the word here.
+fn name_in(words: Words<'_>, out: &mut [u16]) -> usize
     ensures { result ≤ length out.new }
 {
-    let mut bytes = bytes_room();
-    let n = bytes_at(s, at, &mut bytes);
+    let mut bytes = [0u8; 131_080];
+    let n = words.bytes_in(&mut bytes);
     units_in(front(&bytes, n), out)
 }
 
-// The first so many units of an output.
-fn show_units<W: Write>(w: &mut W, out: &[u8], units: usize) -> io::Result<()> {
-    shown::list(w, front(out, product(units, 2)), Form::Unit)
-}
-
 fn one_more(n: usize) -> usize {
-    if n < 65_536 {
-        return n + 1;
-    }
-    n
+    if n < 65_536 { n + 1 } else { n }
 }
 
-fn encoded<W: Write>(
-    w: &mut W,
-    name: &[u16],
-    is_table: bool,
-    units: &mut [u16],
-    out: &mut [u8],
-) -> io::Result<usize> {
-    let answer = streamname::encode(name, is_table, units);
-    let left = kept::units(units, out);
-    match answer {
-        Encoded::Units(length) => {
+fn encoded<W: Write>(w: &mut W, name: &[u16], is_table: bool, units: &mut [u16]) -> io::Result<()> {
+    match streamname::encode(name, is_table, units) {
+        Ok(length) => {
             shown::say(w, b"ok ")?;
-            show_units(w, out, length)?;
+            shown::units(w, front(units, length))
         }
-        Encoded::Refused(why) => shown::refused(w, why)?,
+        Err(why) => shown::refused(w, why),
     }
-    Ok(left)
 }
 
-fn decoded<W: Write>(
-    w: &mut W,
-    stored: &[u16],
-    units: &mut [u16],
-    out: &mut [u8],
-) -> io::Result<usize> {
-    let answer = streamname::decode(stored, units);
-    let left = kept::units(units, out);
-    match answer {
-        Decoded::Name {
-            units: length,
-            is_table,
-        } => {
+fn decoded<W: Write>(w: &mut W, stored: &[u16], units: &mut [u16]) -> io::Result<()> {
+    match streamname::decode(stored, units) {
+        Ok(name) => {
             shown::say(w, b"ok ")?;
-            shown::flag(w, is_table)?;
+            shown::flag(w, name.is_table)?;
             shown::say(w, b" ")?;
-            show_units(w, out, length)?;
+            shown::units(w, front(units, name.units))
         }
-        Decoded::Refused(why) => shown::refused(w, why)?,
+        Err(why) => shown::refused(w, why),
     }
-    Ok(left)
 }
 
-fn valid<W: Write>(w: &mut W, name: &[u16], is_table: bool) -> io::Result<()> {
-    let answer = streamname::is_valid(name, is_table);
-    match answer {
-        Validity::Valid => shown::say(w, b"ok 1"),
-        Validity::Invalid => shown::say(w, b"ok 0"),
-        Validity::Refused(why) => shown::refused(w, why),
-    }
+// `enc T UNITS`
+pub fn encode<W: Write>(w: &mut W, words: Words<'_>, desk: Desk, out: &mut [u8]) -> io::Result<Desk>
+    ensures { IfOk result (λ d. (d.width ≡ 2) × (d.pool ≡ desk.pool) × (d.lengths ≡ desk.lengths) × (d.counts ≡ desk.counts) × (d.text ≡ desk.text) × (d.places ≡ desk.places)) }
+{
+    let mut name = [0u16; 65_540];
+    let mut units = [0xEEEEu16; 131_080];
+    let given = name_in(words.next(), &mut name);
+    let n = places::of(&name, given);
+    let m = places::of(&units, desk.output(one_more(n)));
+    encoded(w, &name[..n], words.byte() == b'1', &mut units[..m])?;
+    Ok(desk.leaves(kept::list(&units[..m], out), 2))
+}
+
+// `dec UNITS`
+pub fn decode<W: Write>(w: &mut W, words: Words<'_>, desk: Desk, out: &mut [u8]) -> io::Result<Desk>
+    ensures { IfOk result (λ d. (d.width ≡ 2) × (d.pool ≡ desk.pool) × (d.lengths ≡ desk.lengths) × (d.counts ≡ desk.counts) × (d.text ≡ desk.text) × (d.places ≡ desk.places)) }
+{
+    let mut name = [0u16; 65_540];
+    let mut units = [0xEEEEu16; 131_080];
+    let given = name_in(words, &mut name);
+    let n = places::of(&name, given);
+    let m = places::of(&units, desk.output(product(n, 2)));
+    decoded(w, &name[..n], &mut units[..m])?;
+    Ok(desk.leaves(kept::list(&units[..m], out), 2))
 }
 
 // `valid T UNITS`
-pub fn is_valid<W: Write>(w: &mut W, s: &[u8], at: usize) -> io::Result<()>
+pub fn is_valid<W: Write>(w: &mut W, words: Words<'_>) -> io::Result<()>
     ensures { IfOk result (λ u. u ≡ tt) }
 {
-    let mut name = name_room();
-    let given = name_in(s, next(s, at), &mut name);
-    let n = places::units(&name, given);
-    valid(w, &name[..n], byte(s, at) == b'1')
-}
-
-// `enc T UNITS`, `dec UNITS`
-pub fn changed<W: Write>(
-    w: &mut W,
-    encodes: bool,
-    s: &[u8],
-    at: usize,
-    desk: Desk,
-    out: &mut [u8],
-) -> io::Result<Desk> {
-    let mut name = name_room();
-    let mut units = units_room();
-    if encodes {
-        let given = name_in(s, next(s, at), &mut name);
-        let n = places::units(&name, given);
-        let m = places::units(&units, desk.output(one_more(n)));
-        let left = encoded(w, &name[..n], byte(s, at) == b'1', &mut units[..m], out)?;
-        return Ok(desk.leaves(left, 2));
+    let mut name = [0u16; 65_540];
+    let given = name_in(words.next(), &mut name);
+    match streamname::is_valid(front(&name, given), words.byte() == b'1') {
+        Ok(valid) => {
+            shown::say(w, b"ok ")?;
+            shown::flag(w, valid)
+        }
+        Err(why) => shown::refused(w, why),
     }
-    let given = name_in(s, at, &mut name);
-    let n = places::units(&name, given);
-    let m = places::units(&units, desk.output(product(n, 2)));
-    let left = decoded(w, &name[..n], &mut units[..m], out)?;
-    Ok(desk.leaves(left, 2))
 }
 
 // `ref REF`
-pub fn reference<W: Write>(w: &mut W, s: &[u8], at: usize) -> io::Result<()>
+pub fn reference<W: Write>(w: &mut W, words: Words<'_>) -> io::Result<()>
     ensures { IfOk result (λ u. u ≡ tt) }
 {
-    let made = StringRef::new(numbers::signed_at(s, at));
-    match made {
-        Made::Ref(r) => {
+    match StringRef::new(words.signed()) {
+        Ok(r) => {
             shown::say(w, b"ok ")?;
             numbers::show(w, r.0)
         }
-        Made::Refused(why) => shown::refused(w, why),
+        Err(why) => shown::refused(w, why),
     }
-}
-
-// An array that a call gives back is known by its size, and not place by place.
-fn bytes_room() -> [u8; 131080] {
-    [0u8; 131080]
-}
-
-fn name_room() -> [u16; 65540] {
-    [0u16; 65540]
-}
-
-fn units_room() -> [u16; 131080] {
-    [0xEEEEu16; 131080]
 }

@@ -3,9 +3,6 @@ use Rattle.std.specs.Prelude.{ℕ, ◌*◌, Bool, not, ◌&&◌, ◌||◌}
 use Rattle.common.specs.Choice.{when◌then◌else◌, ◌<?◌, ◌≤?◌, ◌=?◌}
 use Rattle.common.specs.Sizes.{max_bytes, max_entries, max_codepage}
 use Rattle.common.specs.Answers.{Answer, gives, refused, nowhere}
-use Rattle.common.specs.Refusals.{refused_by}
-use Rattle.order.specs.declared.Fits.{Fits}
-use Rattle.order.specs.declared.Fits.TheVariants.{Yes, Refused}
 
 -- "Making an empty (short) pool or setting the code page: 21."
 abbrev pub page_fits_lem : ℕ → Answer (Unit {0})
@@ -56,7 +53,3 @@ bulk_fits_lem most rows columns kinds numbers =
     when most <? rows then refused 14 nowhere
     else when not (kinds =? rows * columns && numbers =? rows * columns) then refused 23 nowhere
     else gives tt
-
-abbrev pub fits_as : Fits → Answer (Unit {0})
-fits_as Yes = gives tt
-fits_as (Refused x) = refused_by x

@@ -1,60 +1,62 @@
 // The orders of what changes a pool: its code page, a take, a drop.
 ghost use Rattle.std.specs.Prelude.{◌≡◌, not, ◌&&◌};
 ghost use Rattle.common.specs.Choice.{◌≤?◌};
-ghost use Rattle.order.specs.Order.{fits_as, page_fits_lem, add_fits_lem, drop_fits_lem};
+ghost use Rattle.common.specs.Refusals.{answered};
+ghost use Rattle.order.specs.Order.{page_fits_lem, add_fits_lem, drop_fits_lem};
 
-use crate::Fits;
 use common::Refusal;
 use common::sizes::{MAX_CODEPAGE, MAX_ENTRIES};
 
-pub fn page_fits(codepage: u32) -> Fits
-    ensures { fits_as result ≡ page_fits_lem codepage }
+pub fn page_fits(codepage: u32) -> Result<(), Refusal>
+    ensures { answered result ≡ page_fits_lem codepage }
 {
     if codepage > MAX_CODEPAGE {
-        return Fits::Refused(Refusal::CodepageRange);
+        return Err(Refusal::CodepageRange);
     }
-    Fits::Yes
+    Ok(())
 }
 
 // A take that adds an entry to n; the texts take after bytes then.
-pub fn add_fits(long: bool, n: usize, entries: usize, after: usize, text: usize) -> Fits
-    ensures { fits_as result ≡ add_fits_lem long n entries after text }
+pub fn add_fits(
+    long: bool,
+    n: usize,
+    entries: usize,
+    after: usize,
+    text: usize,
+) -> Result<(), Refusal>
+    ensures { answered result ≡ add_fits_lem long n entries after text }
 {
-    let full = short_full(long, n);
-    if full {
-        return Fits::Refused(Refusal::ShortReferencesFull);
+    if short_full(long, n) {
+        return Err(Refusal::ShortReferencesFull);
     }
     if n >= MAX_ENTRIES {
-        return Fits::Refused(Refusal::EntriesFull);
+        return Err(Refusal::EntriesFull);
     }
     if n >= entries {
-        return Fits::Refused(Refusal::EntryRoom);
+        return Err(Refusal::EntryRoom);
     }
     if after > text {
-        return Fits::Refused(Refusal::TextRoom);
+        return Err(Refusal::TextRoom);
     }
-    Fits::Yes
+    Ok(())
 }
 
 // Whether short references leave no number for a new entry.
 fn short_full(long: bool, n: usize) -> bool
     ensures { result ≡ (not long && 65535 ≤? n) }
 {
-    if long {
-        return false;
-    }
-    n >= 65535
+    !long && n >= 65535
 }
 
 // A drop at the place `at` of n, on an entry with that count.
-pub fn drop_fits(n: usize, at: usize, count: u16) -> Fits
-    ensures { fits_as result ≡ drop_fits_lem n at count }
+pub fn drop_fits(n: usize, at: usize, count: u16) -> Result<(), Refusal>
+    ensures { answered result ≡ drop_fits_lem n at count }
 {
     if at >= n {
-        return Fits::Refused(Refusal::DropPastEnd);
+        return Err(Refusal::DropPastEnd);
     }
     if count == 0 {
-        return Fits::Refused(Refusal::CountZero);
+        return Err(Refusal::CountZero);
     }
-    Fits::Yes
+    Ok(())
 }

@@ -8,11 +8,3 @@ mod table;
 pub use crate::change::{add_fits, drop_fits, page_fits};
 pub use crate::load::{load_fits, streams_fit};
 pub use crate::table::{bulk_fits, cell_fits};
-use common::Refusal;
-
-// No refusal is met, or the first.
-#[derive(Clone, Copy)]
-pub enum Fits {
-    Yes,
-    Refused(Refusal),
-}

@@ -1,145 +1,100 @@
 // Commands on the pool.
-use crate::{bytes_at, pooled};
-use commands::words::{front, next};
-use commands::{numbers, shown};
+ghost use Rattle.stringpool.specs.Pool.{SameRooms};
+
+use commands::shown;
+use commands::words::{Words, front};
+use common::Refusal;
 use room_commands::Desk;
 use std::io;
 use std::io::Write;
-use stringpool::{Counted, Pooled, StringPool, Taken};
+use stringpool::{Rooms, RoomsMut, StringPool, Taken};
 
 pub(crate) fn state<W: Write>(w: &mut W, pool: StringPool) -> io::Result<()> {
-    shown::say(w, b"ok ")?;
-    shown::number(w, pool.codepage as usize)?;
-    shown::say(w, b" ")?;
-    shown::flag(w, pool.long_string_refs)?;
-    shown::say(w, b" ")?;
-    shown::number(w, pool.num_strings)
-}
-
-pub(crate) fn new<W: Write>(w: &mut W, s: &[u8], at: usize, desk: Desk) -> io::Result<Desk> {
-    pooled(w, StringPool::new(numbers::count_at(s, at)), desk)
-}
-
-pub(crate) fn page<W: Write>(
-    w: &mut W,
-    s: &[u8],
-    at: usize,
-    desk: Desk,
-    lengths: &[u32],
-    counts: &[u16],
-    text: &[u8],
-) -> io::Result<Desk> {
-    let pool = desk.pool;
-    pooled(
-        w,
-        pool.set_codepage(lengths, counts, text, numbers::count_at(s, at)),
-        desk,
-    )
+    let StringPool {
+        num_strings,
+        long_string_refs,
+        codepage,
+    } = pool;
+    write!(w, "ok {codepage} ")?;
+    shown::flag(w, long_string_refs)?;
+    write!(w, " {num_strings}")
 }
 
 pub(crate) fn load<W: Write>(
     w: &mut W,
-    s: &[u8],
-    at: usize,
+    words: Words<'_>,
     desk: Desk,
-    lengths: &mut [u32],
-    counts: &mut [u16],
-    text: &mut [u8],
-) -> io::Result<Desk> {
+    rooms: &mut RoomsMut<'_>,
+) -> io::Result<Desk>
+    ensures same { SameRooms rooms.old rooms.new }
+{
     let mut stream = stream_room();
     let mut data = text_room();
-    let n = bytes_at(s, at, &mut stream);
-    let m = bytes_at(s, next(s, at), &mut data);
-    let answer = StringPool::load(front(&stream, n), front(&data, m), lengths, counts, text);
-    match answer {
-        Pooled::Is(made) => {
+    let n = words.bytes_in(&mut stream);
+    let m = words.next().bytes_in(&mut data);
+    match StringPool::load(front(&stream, n), front(&data, m), rooms) {
+        Ok(made) => {
             state(w, made)?;
             Ok(desk.with_pool(made))
         }
-        Pooled::Refused(why) => {
+        Err(why) => {
             shown::refused(w, why)?;
             Ok(desk)
         }
     }
 }
 
-// By the first entry that is free or equal, as the crate chooses, or by the default.
-fn taken(
-    first: bool,
-    pool: StringPool,
-    lengths: &mut [u32],
-    counts: &mut [u16],
-    text: &mut [u8],
-    new: &[u8],
-) -> Taken {
-    if first {
-        return pool.incref_first(lengths, counts, text, new);
+// A reference that was taken, and the pool after it.
+fn taken<W: Write>(w: &mut W, answer: Result<Taken, Refusal>, desk: Desk) -> io::Result<Desk> {
+    match answer {
+        Ok(Taken { reference, pool }) => {
+            write!(w, "ok {}", reference.0)?;
+            Ok(desk.with_pool(pool))
+        }
+        Err(why) => {
+            shown::refused(w, why)?;
+            Ok(desk)
+        }
     }
-    pool.incref(lengths, counts, text, new)
 }
 
-// `take`, or `take-default`
+// `take` is by the first entry that is free or equal, as the crate chooses. It and `take-default` are two functions: of a call that is
+// handed in, nothing would say that the rooms stay the same memory.
 pub(crate) fn take<W: Write>(
     w: &mut W,
-    first: bool,
-    s: &[u8],
-    at: usize,
+    words: Words<'_>,
     desk: Desk,
-    lengths: &mut [u32],
-    counts: &mut [u16],
-    text: &mut [u8],
-) -> io::Result<Desk> {
+    rooms: &mut RoomsMut<'_>,
+) -> io::Result<Desk>
+    ensures same { SameRooms rooms.old rooms.new }
+{
     let mut new = text_room();
-    let n = bytes_at(s, at, &mut new);
-    let pool = desk.pool;
-    let answer = taken(first, pool, lengths, counts, text, front(&new, n));
-    match answer {
-        Taken::Ref(taken, after) => {
-            shown::say(w, b"ok ")?;
-            numbers::show(w, taken.0)?;
-            Ok(desk.with_pool(after))
-        }
-        Taken::Refused(why) => {
-            shown::refused(w, why)?;
-            Ok(desk)
-        }
-    }
+    let n = words.bytes_in(&mut new);
+    taken(w, desk.pool.incref_first(rooms, front(&new, n)), desk)
 }
 
-pub(crate) fn drop<W: Write>(
+pub(crate) fn take_default<W: Write>(
     w: &mut W,
-    s: &[u8],
-    at: usize,
+    words: Words<'_>,
     desk: Desk,
-    lengths: &mut [u32],
-    counts: &mut [u16],
-    text: &mut [u8],
-) -> io::Result<Desk> {
-    let pool = desk.pool;
-    pooled(
-        w,
-        pool.decref(lengths, counts, text, numbers::signed_at(s, at)),
-        desk,
-    )
+    rooms: &mut RoomsMut<'_>,
+) -> io::Result<Desk>
+    ensures same { SameRooms rooms.old rooms.new }
+{
+    let mut new = text_room();
+    let n = words.bytes_in(&mut new);
+    taken(w, desk.pool.incref(rooms, front(&new, n)), desk)
 }
 
 pub(crate) fn count<W: Write>(
     w: &mut W,
-    s: &[u8],
-    at: usize,
+    words: Words<'_>,
     desk: Desk,
-    lengths: &[u32],
-    counts: &[u16],
-    text: &[u8],
+    rooms: Rooms<'_, '_>,
 ) -> io::Result<Desk> {
-    let pool = desk.pool;
-    let answer = pool.refcount(lengths, counts, text, numbers::signed_at(s, at));
-    match answer {
-        Counted::Is(n) => {
-            shown::say(w, b"ok ")?;
-            shown::number(w, n as usize)?;
-        }
-        Counted::Refused(why) => shown::refused(w, why)?,
+    match desk.pool.refcount(rooms, words.signed()) {
+        Ok(n) => write!(w, "ok {n}")?,
+        Err(why) => shown::refused(w, why)?,
     }
     Ok(desk)
 }

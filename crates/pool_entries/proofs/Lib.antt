@@ -1,6 +1,7 @@
 pub mod Bytes
 pub mod Calls
 pub mod Entries
+pub mod FirstFree
 pub mod Look
 pub mod Places
 pub mod Points

@@ -4,9 +4,10 @@ use Rattle.common.specs.Choice.{when◌then◌else◌}
 use Rattle.common.specs.Lists.{total}
 use Rattle.common.proofs.Bools.{lt_or_le}
 use Rattle.common.proofs.Sums.{total-in}
-use Rattle.common.specs.Answers.{Answer, gives, refused, nowhere}
+use Rattle.common.specs.Answers.{Answer, gives, refused, nowhere, on_given}
 use Rattle.pool_entries.specs.Sound.{on_sound_rooms}
-use Rattle.pool_entries.specs.Calls.{spot_at, choose_answer}
+use Rattle.pool_entries.specs.Calls.{spot_at, choose_answer, sound_answer}
+use Rattle.pool_entries.proofs.Sound.{on-judged}
 use Rattle.pool_entries.specs.Entries.{Entry, entry, Rooms, first_entries, free}
 use Rattle.pool_entries.specs.Choose.{equal, first_place, Chooser, first_free_or_equal, can_count_up_lem, equal_then_free_lem}
 use Rattle.pool_entries.specs.inner.Fit.{Fit}
@@ -141,14 +142,22 @@ module _ (n : ℕ) (w : Rooms) (t : List ℕ) where
 
 -- ---- the answer, with the text's size judged first
 
-module _ (choose : Chooser) (n page : ℕ) (w : Rooms) (t : List ℕ) where
-  pub choose_over : 268435455 < length t → refused 22 nowhere ≡ choose_answer choose n page w t
-  choose_over h = simp (lt-ltb 268435455 (length t) h)
+-- what a take is given by this choice of the entries of a sound state
+abbrev pub chosen_by : Chooser → List ℕ → ℕ × Rooms × ℕ → Answer (ℕ × ℕ × ℕ)
+chosen_by choose t y = let k : ℕ = choose t (first_entries y.0 y.1) in gives (k, total (take k y.1.lengths), y.2)
 
-  pub choose_on : length t ≤ 268435455 → on_sound_rooms n page w (gives (spot_at n w (choose t (first_entries n w)))) ≡ choose_answer choose n page w t
-  choose_on h = sym (ap (λ (b : Bool). when b then refused 22 nowhere else on_sound_rooms n page w (gives (spot_at n w (choose t (first_entries n w))))) (le-ltb 268435455 (length t) h))
+module _ (choose : Chooser) (n : ℕ) (w : Rooms) (t : List ℕ) where
+  pub choose_on : (page : ℕ) → length t ≤ 268435455 → {x : Answer (ℕ × ℕ × ℕ)} → x ≡ on_sound_rooms n page w (gives (spot_at n w (choose t (first_entries n w))))
+      → x ≡ choose_answer choose n page w t
+  choose_on page h e = e ∙ sym (ap (λ (b : Bool). when b then refused 22 nowhere else on_sound_rooms n page w (gives (spot_at n w (choose t (first_entries n w))))) (le-ltb 268435455 (length t) h))
 
   -- what was found in a state that fits
-  pub spot_found : (k s u : ℕ) → k ≡ choose t (first_entries n w) → s ≡ total (take k w.lengths) → u ≡ total (take n w.lengths)
-      → ◌≡◌ {A = Answer (ℕ × ℕ × ℕ)} (gives (k, s, u)) (gives (spot_at n w (choose t (first_entries n w))))
-  spot_found k s u f b e = ap₂ (λ (x y : ℕ). gives (k, x, y)) b e ∙ ap (λ (j : ℕ). gives (spot_at n w j)) f
+  pub spot_found : (k s u : ℕ) → k ≡ choose t (first_entries n w) → s ≡ total (take k w.lengths) → gives (k, s, u) ≡ chosen_by choose t (n, w, u)
+  spot_found k s u f b = ap (λ (x : ℕ). gives (k, x, u)) b ∙ ap (λ (j : ℕ). gives (j, total (take j w.lengths), u)) f
+
+  -- and by what the judge answers
+  pub chosen_judged : (page : ℕ) {x : Answer (ℕ × Rooms × ℕ)} → x ≡ sound_answer n page w
+      → on_given x (chosen_by choose t) ≡ on_sound_rooms n page w (gives (spot_at n w (choose t (first_entries n w))))
+  chosen_judged page e =
+      let y : ℕ × Rooms × ℕ = (n, w, total (take n w.lengths)) in
+      ap (λ (a : Answer (ℕ × Rooms × ℕ)). on_given a (chosen_by choose t)) e ∙ on-judged n page w y (chosen_by choose t)

@@ -1,23 +1,30 @@
 -- Laws of the judgement of a state.
-use Rattle.std.proofs.Common.{◌≡◌, ℕ, zero, suc, ◌+◌, ◌<◌, ◌≤◌, min, Bool, true, false, not, ◌&&◌, ◌||◌, eqb, ltb, leb, List, [], ◌∷◌, length, get_or, take, drop, sym, refl, ap, ◌∙◌, subst, ap₂, add-one, arith, length-drop, length-take-le, get_or-drop, drop-cons, get_or-take, ltb-false, ltb-true, le-ltb, lt-ltb, ne_eqb, le-leb, leb-true}
-use lib.Seq.{drop-length}
+use Rattle.std.proofs.Common.{◌≡◌, ℕ, zero, suc, ◌+◌, ◌<◌, ◌≤◌, min, Bool, true, false, not, ◌&&◌, ◌||◌, eqb, ltb, leb, List, [], ◌∷◌, length, get_or, take, drop, sym, refl, ap, ◌∙◌, subst, ap₂, add-one, arith, length-drop, length-take-le, get_or-drop, drop-cons, get_or-take, ltb-false, ltb-true, lt-ltb, ne_eqb, le-leb, leb-true}
+use Rattle.std.specs.List.{list_all, zip}
 use borrow.Author.Tests.{lt-leb}
-use Rattle.common.specs.Choice.{when◌then◌else◌, ◌≤?◌, ◌=?◌}
+use Rattle.common.specs.Choice.{when◌then◌else◌, ◌<?◌, ◌≤?◌, ◌=?◌}
+use Rattle.common.specs.Sizes.{max_bytes}
 use Rattle.common.specs.Lists.{total}
-use Rattle.common.specs.Answers.{Answer, gives, refused, nowhere}
+use Rattle.common.specs.Answers.{Answer, Place, gives, refused, nowhere, on_given}
 use Rattle.pool_entries.specs.Entries.{Entry, Rooms, cut, entry_room_lem, free, all}
 use Rattle.pool_entries.specs.Sound.{sound_rooms, on_sound_rooms}
-use Rattle.pool_entries.specs.inner.Fit.{Fit}
 use Rattle.pool_entries.specs.inner.Adding.{Short}
 use Rattle.pool_entries.specs.inner.Look.{Counted, SmallTo}
 use Rattle.pool_entries.specs.inner.Sound.{small_b, all_small_lem, sums_b, fits_b, sound_b, used_of}
-use Rattle.common.specs.Refusals.{refused_by}
-use Rattle.common.specs.declared.refusal.Refusal.{Refusal}
-use Rattle.common.specs.declared.refusal.Refusal.TheVariants.{Unsound}
-use Rattle.pool_entries.specs.Calls.{judged_as}
-use Rattle.pool_entries.specs.declared.judging.State.TheVariants.{Sound, Refused}
+use Rattle.pool_entries.specs.inner.Held.{entries_answer}
+use Rattle.common.proofs.Outcomes.{refused-gives}
 
 -- ---- small entries, read from the front
+
+-- as the code looks at them, by pairs
+pub small-zip : (ls cs : List ℕ) → list_all (λ (p : ℕ × ℕ). small_b p.0 p.1) (zip ls cs) ≡ all_small_lem ls cs
+small-zip [] cs = refl
+small-zip (l ∷ ls) [] = refl
+small-zip (l ∷ ls) (c ∷ cs) = ap (λ (b : Bool). small_b l c && b) (small-zip ls cs) ∙ go (small_b l c) (all_small_lem ls cs)
+  where
+    go : (a b : Bool) → (a && b) ≡ (when a then b else false)
+    go true b = refl
+    go false b = refl
 
 -- the entry at i decides, or those after it
 all_small-step : (n : ℕ) (ls cs : List ℕ) (i : ℕ) → n ≤ length ls → n ≤ length cs → i < n
@@ -29,24 +36,12 @@ all_small-step n ls cs i hl hc h =
     ap₂ all_small_lem (drop-cons (take n ls) i 0 hl') (drop-cons (take n cs) i 0 hc')
     ∙ simp (get_or-take n ls i 0 h, get_or-take n cs i 0 h)
 
-all_small-end : (n : ℕ) (ls cs : List ℕ) → n ≤ length ls → all_small_lem (drop n (take n ls)) (drop n (take n cs)) ≡ true
-all_small-end n ls cs hl =
-    let e : drop n (take n ls) ≡ [] = ap (λ (k : ℕ). drop k (take n ls)) (sym (length-take-le n ls hl)) ∙ drop-length (take n ls) in
-    ap (λ (l : List ℕ). all_small_lem l (drop n (take n cs))) e
-
--- The turns of the pass: it refuses at an entry that is free and long, goes past any other, and ends.
+-- one entry further
 module _ (n : ℕ) (ls cs : List ℕ) (hl : n ≤ length ls) (hc : n ≤ length cs) (i : ℕ) (inv : SmallTo n ls cs i) where
-  pub small-no : i < n → small_b (get_or ls i 0) (get_or cs i 0) ≡ false → false ≡ all_small_lem (take n ls) (take n cs)
-  small-no h no' =
-      sym (inv ∙ all_small-step n ls cs i hl hc h ∙ ap (λ (b : Bool). when b then all_small_lem (drop (suc i) (take n ls)) (drop (suc i) (take n cs)) else false) no')
-
-  pub small-next : i < n → small_b (get_or ls i 0) (get_or cs i 0) ≡ true → SmallTo n ls cs (i + 1)
+  small-next : i < n → small_b (get_or ls i 0) (get_or cs i 0) ≡ true → SmallTo n ls cs (i + 1)
   small-next h yes' =
       inv ∙ all_small-step n ls cs i hl hc h
       ∙ ap (λ (b : Bool). when b then all_small_lem (drop (suc i) (take n ls)) (drop (suc i) (take n cs)) else false) yes' ∙ rw (add-one i)
-
-  pub small-yes : i ≡ n → true ≡ all_small_lem (take n ls) (take n cs)
-  small-yes e = sym (inv ∙ ap (λ (k : ℕ). all_small_lem (drop k (take n ls)) (drop k (take n cs))) e ∙ all_small-end n ls cs hl)
 
   -- an entry that is counted is small
   small-counted : i < n → 0 < get_or cs i 0 → SmallTo n ls cs (i + 1)
@@ -86,28 +81,32 @@ module _ (n : ℕ) (ls cs : List ℕ) (hl : n ≤ length ls) (hc : n ≤ length 
       let e : get_or (drop at (take n ls)) k 0 ≡ get_or ls (at + k) 0 = rw get_or-drop (get_or-take n ls (at + k) 0 q) in
       rw e (s (at + k) (omega arith) q))
 
-  module _ (room u : ℕ) (e : u ≡ total (take n ls)) where
-    by_tests : (a b : Bool) → all_small_lem (take n ls) (take n cs) ≡ a → leb u room ≡ b
-        → used_of n ls cs room ≡ (when (when a then b else false) then Sound (total (take n ls)) else Refused Unsound)
-    by_tests a b f g =
-        ap₂ (λ (x y : Bool). when (when x then y else false) then Sound (total (take n ls)) else Refused Unsound) f (ap (λ (k : ℕ). leb k room) (sym e) ∙ g)
+-- the bytes in use of n entries that fit their rooms
+module _ (n : ℕ) (w : Rooms) (hl : n ≤ length w.lengths) (hc : n ≤ length w.counts) (u : ℕ) (e : u ≡ total (take n w.lengths)) where
+  abbrev Small : Bool
+  Small = all_small_lem (take n w.lengths) (take n w.counts)
 
-    pub used_over : room < u → Refused Unsound ≡ used_of n ls cs room
-    used_over h = sym (by_tests (all_small_lem (take n ls) (take n cs)) false refl (lt-leb u room h) ∙ go (all_small_lem (take n ls) (take n cs)))
-      where
-        go : (a : Bool) → (when (when a then false else false) then Sound (total (take n ls)) else Refused Unsound) ≡ Refused Unsound
-        go true = refl
-        go false = refl
+  by_tests : (a b : Bool) → Small ≡ a → leb u (length w.text) ≡ b
+      → used_of n w ≡ (when (when a then b else false) then gives (total (take n w.lengths)) else refused 24 nowhere)
+  by_tests a b f g =
+      ap₂ (λ (x y : Bool). when (when x then y else false) then gives (total (take n w.lengths)) else refused 24 nowhere) f (ap (λ (k : ℕ). leb k (length w.text)) (sym e) ∙ g)
 
-    module _ (h : u ≤ room) where
-      pub used_sound : all_small_lem (take n ls) (take n cs) ≡ true → Sound u ≡ used_of n ls cs room
-      used_sound s = ap Sound e ∙ sym (by_tests true true s (le-leb u room h))
+  pub used_over : length w.text < u → refused 24 nowhere ≡ used_of n w
+  used_over h = sym (by_tests Small false refl (lt-leb u (length w.text) h) ∙ go Small)
+    where
+      go : (a : Bool) → (when (when a then false else false) then gives (total (take n w.lengths)) else refused 24 nowhere) ≡ refused 24 nowhere
+      go true = refl
+      go false = refl
 
-      pub used_unsound : all_small_lem (take n ls) (take n cs) ≡ false → Refused Unsound ≡ used_of n ls cs room
-      used_unsound s = sym (by_tests false true s (le-leb u room h))
+  module _ (h : u ≤ length w.text) where
+    pub used_sound : Small ≡ true → gives u ≡ used_of n w
+    used_sound s = ap gives e ∙ sym (by_tests true true s (le-leb u (length w.text) h))
 
-      pub used_short : (at : ℕ) → at ≤ n → SmallTo n ls cs at → Short ls at n → Sound u ≡ used_of n ls cs room
-      used_short at k inv s = used_sound (short-from at k inv s)
+    pub used_unsound : Small ≡ false → refused 24 nowhere ≡ used_of n w
+    used_unsound s = sym (by_tests false true s (le-leb u (length w.text) h))
+
+    pub used_short : (at : ℕ) → at ≤ n → SmallTo n w.lengths w.counts at → Short w.lengths at n → gives u ≡ used_of n w
+    used_short at k inv s = used_sound (short-from n w.lengths w.counts hl hc at k inv s)
 
 -- ---- soundness
 
@@ -203,58 +202,73 @@ fits_few n page ls cs e =
 
 -- ---- the judgement, test by test
 
-module _ {A : Type 0} (n page : ℕ) (w : Rooms) (a : Answer A) where
-  pub judge_size : 268435455 < length w.text → refused 22 nowhere ≡ on_sound_rooms n page w a
-  judge_size h = simp (lt-ltb 268435455 (length w.text) h)
+pub judge_size : {A : Type 0} (n page : ℕ) (w : Rooms) (a : Answer A) → 268435455 < length w.text → refused 22 nowhere ≡ on_sound_rooms n page w a
+judge_size n page w a h = simp (lt-ltb 268435455 (length w.text) h)
 
-  module _ (hw : length w.text ≤ 268435455) where
-    by_sound : (b : Bool) → sound_b n page w ≡ b → (when not b then refused 24 nowhere else a) ≡ on_sound_rooms n page w a
-    by_sound b e =
-        sym (ap₂ (λ (x y : Bool). when x then refused 22 nowhere else when not y then refused 24 nowhere else a)
-        (le-ltb 268435455 (length w.text) hw) (sound-same n page w ∙ e))
+-- first the entries, then the bytes that they use
+module _ {A : Type 0} (n page : ℕ) (w : Rooms) (f : ℕ × Rooms × ℕ → Answer A) where
+  abbrev Found : ℕ × Rooms → Answer A
+  Found x = on_given (used_of x.0 x.1) (λ (u : ℕ). let y : ℕ × Rooms × ℕ = (x.0, x.1, u) in f y)
 
-    pub judge_out : fits_b n page w.lengths w.counts ≡ false → refused 24 nowhere ≡ on_sound_rooms n page w a
-    judge_out e = by_sound false (ap (λ (b : Bool). when b then sums_b n w.lengths w.counts (length w.text) else false) e)
+  by_entries : on_given (entries_answer n page w) Found ≡ on_sound_rooms n page w (f (n, w, total (take n w.lengths)))
+  by_entries =
+      go (max_bytes <? length w.text) (fits_b n page w.lengths w.counts)
+      ∙ ap (λ (b : Bool). when max_bytes <? length w.text then refused 22 nowhere else when not b then refused 24 nowhere else f Whole) (sym (sound-same n page w))
+    where
+      Whole : ℕ × Rooms × ℕ
+      Whole = (n, w, total (take n w.lengths))
 
-    module _ (fits : fits_b n page w.lengths w.counts ≡ true) where
-      abbrev Sums : Bool
+      Here : Answer (ℕ × Rooms)
+      Here = gives (n, w)
+
+      Sums : Bool
       Sums = sums_b n w.lengths w.counts (length w.text)
 
-      sound-is : (b : Bool) → Sums ≡ b → sound_b n page w ≡ b
-      sound-is b e = ap (λ (x : Bool). when x then Sums else false) fits ∙ e
+      used : (z : Bool) → on_given (when z then gives (total (take n w.lengths)) else refused 24 nowhere) (λ (u : ℕ). let y : ℕ × Rooms × ℕ = (n, w, u) in f y)
+          ≡ (when not z then refused 24 nowhere else f Whole)
+      used true = refl
+      used false = refl
 
-      pub judge_unsound : (x : Refusal) → Refused x ≡ used_of n w.lengths w.counts (length w.text) → refused_by x ≡ on_sound_rooms n page w a
-      judge_unsound x e = ap refused_by (go Sums e).1 ∙ by_sound false (sound-is false (go Sums e).0)
-        where
-          go : (b : Bool) → Refused x ≡ (when b then Sound (total (take n w.lengths)) else Refused Unsound) → (b ≡ false) × (x ≡ Unsound)
-          go true q = let y : ◌≡◌ {A = ℕ} 0 1 = cc in absurd (omega arith)
-          go false q = (refl, cc)
+      go : (x y : Bool)
+          → on_given (when x then refused 22 nowhere else when not y then refused 24 nowhere else Here) Found
+          ≡ (when x then refused 22 nowhere else when not (when y then Sums else false) then refused 24 nowhere else f Whole)
+      go true y = refl
+      go false false = refl
+      go false true = used Sums
 
-      module _ (b : ℕ) (e : Sound b ≡ used_of n w.lengths w.counts (length w.text)) where
-        go : (c : Bool) → Sound b ≡ (when c then Sound (total (take n w.lengths)) else Refused Unsound) → (c ≡ true) × (b ≡ total (take n w.lengths))
-        go true q = (refl, cc)
-        go false q = let y : ◌≡◌ {A = ℕ} 0 1 = cc in absurd (omega arith)
+  -- refused entries, refused bytes, and what follows where neither are
+  pub entries-refused : {k : ℕ} {at : Place} → refused k at ≡ entries_answer n page w → refused k at ≡ on_sound_rooms n page w (f (n, w, total (take n w.lengths)))
+  entries-refused e = ap (λ (a : Answer (ℕ × Rooms)). on_given a Found) e ∙ by_entries
 
-        pub judge_used : b ≡ total (take n w.lengths)
-        judge_used = (go Sums e).1
+  module _ (x : ℕ × Rooms) (e : gives x ≡ entries_answer n page w) where
+    used-next : {b : Answer ℕ} → b ≡ used_of x.0 x.1
+        → on_given b (λ (u : ℕ). let y : ℕ × Rooms × ℕ = (x.0, x.1, u) in f y) ≡ on_sound_rooms n page w (f (n, w, total (take n w.lengths)))
+    used-next g =
+        ap (λ (b : Answer ℕ). on_given b (λ (u : ℕ). let y : ℕ × Rooms × ℕ = (x.0, x.1, u) in f y)) g ∙ ap (λ (a : Answer (ℕ × Rooms)). on_given a Found) e ∙ by_entries
 
-        pub judge_sound : a ≡ on_sound_rooms n page w a
-        judge_sound = by_sound true (sound-is true (go Sums e).0)
+    pub used-refused : {k : ℕ} {at : Place} → refused k at ≡ used_of x.0 x.1 → refused k at ≡ on_sound_rooms n page w (f (n, w, total (take n w.lengths)))
+    used-refused g = used-next g
 
-        pub judge_fit : Fit n w
-        judge_fit =
-            let f = fits_few n page w.lengths w.counts fits in
-            let s = then_second (all_small_lem (take n w.lengths) (take n w.counts)) (leb (total (take n w.lengths)) (length w.text)) (go Sums e).0 in
-            record { lengths = f.lengths; counts = f.counts; text = leb-true _ _ s.1 }
+    pub used-given : (u : ℕ) → gives u ≡ used_of x.0 x.1 → f (x.0, x.1, u) ≡ on_sound_rooms n page w (f (n, w, total (take n w.lengths)))
+    used-given u g = used-next g
 
--- and the judge's own answer
-pub judge_on : (n page : ℕ) (w : Rooms) → length w.text ≤ 268435455 → fits_b n page w.lengths w.counts ≡ true
-    → judged_as (used_of n w.lengths w.counts (length w.text)) ≡ on_sound_rooms n page w (gives (total (take n w.lengths)))
-judge_on n page w hw fits = go (sums_b n w.lengths w.counts (length w.text)) refl
+-- what is given to a call that judges first
+pub on-judged : {A B : Type 0} (n page : ℕ) (w : Rooms) (b : B) (more : B → Answer A)
+    → on_given (on_sound_rooms n page w (gives b)) more ≡ on_sound_rooms n page w (more b)
+on-judged {A} n page w b more = go (max_bytes <? length w.text) (sound_rooms n page w)
   where
-    u : ℕ
-    u = total (take n w.lengths)
+    go : (x y : Bool) → on_given (when x then refused 22 nowhere else when not y then refused 24 nowhere else gives b) more
+        ≡ (when x then refused 22 nowhere else when not y then refused 24 nowhere else more b)
+    go true y = refl
+    go false false = refl
+    go false true = refl
 
-    go : (b : Bool) → sums_b n w.lengths w.counts (length w.text) ≡ b → judged_as (when b then Sound u else Refused Unsound) ≡ on_sound_rooms n page w (gives u)
-    go true e = by_sound n page w (gives u) hw true (sound-is n page w (gives u) hw fits true e)
-    go false e = by_sound n page w (gives u) hw false (sound-is n page w (gives u) hw fits false e)
+-- what the bytes in use say
+pub used-fit : (n : ℕ) (w : Rooms) {u : ℕ} → gives u ≡ used_of n w → (u ≡ total (take n w.lengths)) × (u ≤ length w.text)
+used-fit n w {u} e = go (all_small_lem (take n w.lengths) (take n w.counts)) (leb (total (take n w.lengths)) (length w.text)) refl e
+  where
+    go : (a b : Bool) → leb (total (take n w.lengths)) (length w.text) ≡ b
+        → gives u ≡ (when (when a then b else false) then gives (total (take n w.lengths)) else refused 24 nowhere) → (u ≡ total (take n w.lengths)) × (u ≤ length w.text)
+    go true true f q = let g : u ≡ total (take n w.lengths) = cc in (g, omega (arith, leb-true _ _ f))
+    go true false f q = absurd (refused-gives (sym q))
+    go false b f q = absurd (refused-gives (sym q))

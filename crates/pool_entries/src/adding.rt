@@ -1,9 +1,6 @@
 // Sums of lengths, in loops without a branch that the compiler makes loops over vectors.
-ghost use Rattle.std.specs.Prelude.{◌≡◌, ◌+◌, ◌-◌, ◌*◌, ◌<◌, ◌≤◌, length, take};
-ghost use Rattle.common.specs.Lists.{total};
+ghost use Rattle.std.specs.Prelude.{◌≡◌, ◌+◌, ◌<◌, ◌≤◌, length, sum};
 ghost use Rattle.pool_entries.specs.inner.Adding.{Tallied, Summed};
-
-use std::num::wrapping_add_u32;
 
 // A sum of lengths in 32 bits, good only where `bits`, all their bits together, are at most 65,535.
 #[derive(Clone, Copy)]
@@ -19,82 +16,58 @@ pub(crate) struct Sum {
     pub bits: u32,
 }
 
-// The lengths from..to, at most 4,096.
-fn tally(lengths: &[u32], from: usize, to: usize) -> Narrow
-    requires { (from ≤ to) × (to ≤ length lengths.now) × (to ≤ from + 4096) }
-    ensures { result.bits ≤ 65535 → Tallied lengths.now from to result.sum }
+// The lengths, at most 4,096.
+fn tally(lengths: &[u32]) -> Narrow
+    requires { length lengths.now ≤ 4096 }
+    ensures { result.bits ≤ 65535 → Tallied lengths.now (length lengths.now) result.sum }
 {
     let mut sum: u32 = 0;
     let mut bits: u32 = 0;
-    let mut i = from;
-    while i < to {
-        let size = lengths[i];
-        sum = wrapping_add_u32(sum, size);
-        bits = bits | size;
-        i += 1;
+    for size in lengths {
+        sum = sum.wrapping_add(*size);
+        bits |= *size;
     }
     Narrow { sum, bits }
 }
 
-// The sum of the lengths from..to, at most 4,096 of any size.
-fn sum_any(lengths: &[u32], from: usize, to: usize) -> u64
-    requires { (from ≤ to) × (to ≤ length lengths.now) × (to ≤ from + 4096) }
-    ensures { (total (take from lengths.now) + result ≡ total (take to lengths.now)) × (result ≤ 4294967295 * (to - from)) }
+// The sum of the lengths, at most 4,096 of any size.
+fn sum_any(lengths: &[u32]) -> u64
+    requires { length lengths.now ≤ 4096 }
+    ensures { result ≡ sum lengths.now }
 {
-    let mut sum: u64 = 0;
-    let mut i = from;
-    while i < to {
-        let size = lengths[i];
-        sum += size as u64;
-        i += 1;
-    }
-    sum
+    lengths.iter().map(|size| u64::from(*size)).sum()
 }
 
-// The lengths from..to, at most 4,096, summed.
-fn sum_block(lengths: &[u32], from: usize, to: usize) -> Sum
-    requires { (from ≤ to) × (to ≤ length lengths.now) × (to ≤ from + 4096) }
-    ensures { Summed lengths.now from to result.sum result.bits }
+// The lengths, at most 4,096, summed.
+fn sum_block(lengths: &[u32]) -> Sum
+    requires { length lengths.now ≤ 4096 }
+    ensures { Summed lengths.now result.sum result.bits }
 {
-    let t = tally(lengths, from, to);
+    let t = tally(lengths);
     let bits = t.bits;
     if bits <= 65535 {
         return Sum {
-            sum: t.sum as u64,
+            sum: u64::from(t.sum),
             bits,
         };
     }
     Sum {
-        sum: sum_any(lengths, from, to),
+        sum: sum_any(lengths),
         bits,
     }
 }
 
-// Where the block of at most `size` that starts at i ends.
-pub(crate) fn block_end(i: usize, n: usize, size: usize) -> usize
-    requires { (i < n) × (0 < size) }
-    ensures { (i < result) × (result ≤ n) × (result ≤ i + size) }
-{
-    if n - i > size {
-        return i + size;
-    }
-    n
-}
-
-// The lengths from..n, summed.
-pub(crate) fn add_up(lengths: &[u32], from: usize, n: usize) -> Sum
-    requires { (from ≤ n) × (n ≤ length lengths.now) × (n ≤ 16777215) }
-    ensures { Summed lengths.now from n result.sum result.bits }
+// The lengths, summed.
+pub(crate) fn add_up(lengths: &[u32]) -> Sum
+    requires { length lengths.now ≤ 16777215 }
+    ensures { Summed lengths.now result.sum result.bits }
 {
     let mut sum: u64 = 0;
     let mut bits: u32 = 0;
-    let mut i = from;
-    while i < n {
-        let to = block_end(i, n, 4096);
-        let b = sum_block(lengths, i, to);
+    for block in lengths.chunks(4096) {
+        let b = sum_block(block);
         sum += b.sum;
-        bits = bits | b.bits;
-        i = to;
+        bits |= b.bits;
     }
     Sum { sum, bits }
 }

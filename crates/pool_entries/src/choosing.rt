@@ -1,13 +1,14 @@
 // Which entry a take chooses by document 01, in a state that is judged in the same pass.
 ghost use Rattle.std.specs.Prelude.{◌≡◌, ◌+◌, ◌<◌, ◌≤◌, length};
-ghost use Rattle.pool_entries.specs.Entries.{rooms};
+ghost use Rattle.pool_entries.specs.Rooms.{rooms_of};
 ghost use Rattle.pool_entries.specs.Choose.{first_free_or_equal};
 ghost use Rattle.pool_entries.specs.Calls.{chosen_as, choose_answer};
 ghost use Rattle.pool_entries.specs.inner.Look.{Ends, SumTo, UpAt, FoundIs};
 
-use crate::adding::block_end;
-use crate::frees::first_in;
-use crate::judging::{State, fits, used_after};
+use crate::frees::{BLOCK, first_in};
+use crate::held::HeldEntries;
+use crate::judging::{entries_of, used_after};
+use crate::rooms::Rooms;
 use crate::same::{last_eight, up_by_end};
 use crate::skips::{Step, length_at, skip};
 use common::Refusal;
@@ -21,28 +22,25 @@ pub struct Spot {
     pub used: usize,
 }
 
-#[derive(Clone, Copy)]
-pub enum Choice {
-    At(Spot),
-    Refused(Refusal),
-}
-
 // The first entry of from..to that can count up; with none, `to`. The entries before `from` use begin bytes.
+// A walk: a step passes one entry, or as many as `skip` does.
 pub(crate) fn scan(
-    n: usize,
-    lengths: &[u32],
-    counts: &[u16],
-    text: &[u8],
+    entries: HeldEntries<'_>,
     new: &[u8],
+    word: u64,
     from: usize,
     to: usize,
     begin: usize,
-    word: u64,
 ) -> Step
-    requires n_in_bounds { (n ≤ length lengths.now) × (n ≤ length counts.now) × (n ≤ 16777215) × (from ≤ to) × (to ≤ n) × (length new.now ≤ 268435455) }
-    requires ends { Ends new.now word × SumTo lengths.now from begin }
-    ensures { UpAt n (rooms lengths.now counts.now text.now) new.now from to result.0 result.1 }
+    requires in_bounds { (from ≤ to) × (to ≤ entries.n) × (length new.now ≤ 268435455) }
+    requires ends { Ends new.now word × SumTo entries.rooms.lengths.now from begin }
+    ensures { UpAt entries.entry.n (rooms_of entries.entry.rooms) new.now from to result.0 result.1 }
 {
+    let Rooms {
+        lengths,
+        counts,
+        text,
+    } = entries.rooms;
     let size = new.len();
     let mut start = begin;
     let mut i = from;
@@ -64,18 +62,17 @@ pub(crate) fn scan(
     Step(i, start)
 }
 
-// The first entry, of n, that is free or equal, in a state that may be unsound; with none, n.
-fn search(n: usize, lengths: &[u32], counts: &[u16], text: &[u8], new: &[u8]) -> Step
-    requires { (n ≤ length lengths.now) × (n ≤ length counts.now) × (n ≤ 16777215) × (length new.now ≤ 268435455) }
-    ensures { FoundIs n (rooms lengths.now counts.now text.now) new.now result.0 result.1 }
+// The first entry that is free or equal, in a state that may be unsound; with none, the place after the last.
+fn search(entries: HeldEntries<'_>, new: &[u8]) -> Step
+    requires { length new.now ≤ 268435455 }
+    ensures { FoundIs entries.entry.n (rooms_of entries.entry.rooms) new.now result.0 result.1 }
 {
     let word = last_eight(new);
     let mut start: usize = 0;
     let mut i = 0;
-    while i < n {
-        let to = block_end(i, n, 1024);
-        let free = first_in(counts, i, to);
-        let s = scan(n, lengths, counts, text, new, i, free, start, word);
+    for block in entries.rooms.counts[..entries.n].chunks(BLOCK) {
+        let to = i + block.len();
+        let s = scan(entries, new, word, i, i + first_in(block), start);
         if s.0 < to {
             return s;
         }
@@ -89,28 +86,18 @@ fn search(n: usize, lengths: &[u32], counts: &[u16], text: &[u8], new: &[u8]) ->
 pub fn choose(
     num_strings: usize,
     codepage: u32,
-    lengths: &[u32],
-    counts: &[u16],
-    text: &[u8],
+    rooms: Rooms<'_, '_>,
     new: &[u8],
-) -> Choice
-    ensures { chosen_as result ≡ choose_answer first_free_or_equal num_strings codepage (rooms lengths.now counts.now text.now) new.now }
+) -> Result<Spot, Refusal>
+    ensures { chosen_as result ≡ choose_answer first_free_or_equal num_strings codepage (rooms_of rooms.entry) new.now }
 {
     if new.len() > MAX_BYTES {
-        return Choice::Refused(Refusal::OverSize);
+        return Err(Refusal::OverSize);
     }
-    if text.len() > MAX_BYTES {
-        return Choice::Refused(Refusal::OverSize);
-    }
-    if !fits(num_strings, codepage, lengths, counts) {
-        return Choice::Refused(Refusal::Unsound);
-    }
-    let s = search(num_strings, lengths, counts, text, new);
+    let entries = entries_of(num_strings, codepage, rooms)?;
+    let s = search(entries, new);
     let place = s.0;
     let start = s.1;
-    let u = used_after(num_strings, lengths, counts, text.len(), place, start);
-    match u {
-        State::Refused(why) => Choice::Refused(why),
-        State::Sound(used) => Choice::At(Spot { place, start, used }),
-    }
+    let used = used_after(entries, place, start)?;
+    Ok(Spot { place, start, used })
 }

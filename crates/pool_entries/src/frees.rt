@@ -1,73 +1,38 @@
 // Which entry is free.
-ghost use Rattle.std.specs.Prelude.{◌≡◌, ◌+◌, ◌<◌, ◌≤◌, length};
-ghost use Rattle.pool_entries.specs.inner.Look.{Counted, FreeAt};
+ghost use Rattle.std.specs.Prelude.{◌≡◌, ◌==◌, length, position};
+ghost use Rattle.pool_entries.specs.inner.Look.{FreeAt};
 
-use crate::adding::block_end;
+// Counts that are looked at together for a free entry.
+pub(crate) const BLOCK: usize = 1024;
 
-// 1 for a free entry, else 0.
-fn is_free(count: u16) -> u16
-    ensures { (result ≡ 0 → 0 < count) × (result ≤ 1) }
+// Where the first free entry is.
+fn first(counts: &[u16]) -> Option<usize>
+    ensures { result ≡ position (λ c. c == 0) counts.now }
 {
-    if count == 0 {
-        return 1;
-    }
-    0
+    counts.iter().position(|count| *count == 0)
 }
 
-// How many entries of from..to, at most 1,024, are free, in a loop without a branch that the compiler makes a loop over vectors.
-fn how_many(counts: &[u16], from: usize, to: usize) -> u16
-    requires { (from ≤ to) × (to ≤ length counts.now) × (to ≤ from + 1024) }
-    ensures { result ≡ 0 → Counted counts.now from to }
+// The first free entry, found at once where none is, since `contains` looks at many in a turn; with none, the place after the last.
+pub(crate) fn first_in(counts: &[u16]) -> usize
+    ensures { FreeAt counts.now 0 (length counts.now) result }
 {
-    let mut free: u16 = 0;
-    let mut i = from;
-    while i < to {
-        let count = counts[i];
-        free += is_free(count);
-        i += 1;
+    if counts.contains(&0) {
+        return first(counts).unwrap_or(counts.len());
     }
-    free
+    counts.len()
 }
 
-// The first free entry of from..to, one by one; with none, `to`.
-fn first(counts: &[u16], from: usize, to: usize) -> usize
-    requires { (from ≤ to) × (to ≤ length counts.now) }
-    ensures { FreeAt counts.now from to result }
+// The same of any number, block by block.
+pub(crate) fn first_free(counts: &[u16]) -> usize
+    ensures { FreeAt counts.now 0 (length counts.now) result }
 {
-    let mut i = from;
-    while i < to {
-        if counts[i] == 0 {
-            return i;
+    let mut passed = 0;
+    for block in counts.chunks(BLOCK) {
+        let free = first_in(block);
+        if free < block.len() {
+            return passed + free;
         }
-        i += 1;
+        passed += block.len();
     }
-    to
-}
-
-// The same of at most 1,024 entries, found at once where none is free.
-pub(crate) fn first_in(counts: &[u16], from: usize, to: usize) -> usize
-    requires { (from ≤ to) × (to ≤ length counts.now) × (to ≤ from + 1024) }
-    ensures { FreeAt counts.now from to result }
-{
-    if how_many(counts, from, to) == 0 {
-        return to;
-    }
-    first(counts, from, to)
-}
-
-// The first free entry of n, block by block; with none, n.
-pub(crate) fn first_free(counts: &[u16], n: usize) -> usize
-    requires { n ≤ length counts.now }
-    ensures { FreeAt counts.now 0 n result }
-{
-    let mut i = 0;
-    while i < n {
-        let to = block_end(i, n, 1024);
-        let free = first_in(counts, i, to);
-        if free < to {
-            return free;
-        }
-        i = to;
-    }
-    n
+    passed
 }

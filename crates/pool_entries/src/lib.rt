@@ -4,11 +4,15 @@
 mod adding;
 mod choosing;
 mod frees;
+mod held;
 mod judging;
 mod preferring;
+mod rooms;
 mod same;
 mod skips;
 
-pub use crate::choosing::{Choice, Spot, choose};
-pub use crate::judging::{State, judge};
+pub use crate::choosing::{Spot, choose};
+pub use crate::held::{HeldEntries, SoundEntries};
+pub use crate::judging::{judge, sound_entries};
 pub use crate::preferring::prefer;
+pub use crate::rooms::{Rooms, RoomsMut};

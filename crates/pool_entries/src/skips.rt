@@ -40,6 +40,7 @@ fn skip_four(lengths: &[u32], from: usize, size: usize, begin: usize) -> Step
 }
 
 // From `from` on, entries whose length is not size are passed by, four in a turn: to the first of that length, or to the last three before `to`.
+// A walk: a turn that finds the length stops within the four.
 pub(crate) fn skip(lengths: &[u32], from: usize, to: usize, size: usize, begin: usize) -> Step
     requires { (from ≤ to) × (to ≤ length lengths.now) × (to ≤ 16777215) × SumTo lengths.now from begin }
     ensures { PassedBy lengths.now size from to result.0 result.1 }

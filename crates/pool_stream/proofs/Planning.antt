@@ -6,17 +6,14 @@ use mathlib.Core.List.{List, ◌++◌}
 use lib.ListN.{length, drop}
 use lib.Seq.{paste, take_all}
 use Rattle.common.specs.Lists.{◌over◌, total}
-use Rattle.common.specs.Answers.{Answer, gives, refused, on_given, outcome}
-use Rattle.common.specs.Refusals.{refused_by}
-use Rattle.common.specs.declared.refusal.Refusal.{Refusal}
+use Rattle.common.specs.Answers.{Answer, Place, gives, refused, on_given, outcome}
 use Rattle.common.proofs.Outcomes.{refused-gives}
 use Rattle.order.specs.Order.{streams_fit_lem, load_fits_lem}
 use Rattle.order.proofs.Laws.{streams_fit, load_fits}
 use Rattle.pool_entries.specs.Entries.{Rooms, rooms, entry_room_lem}
 use Rattle.pool_stream.specs.Entries.{pool_entries_lem}
-use Rattle.pool_stream.specs.Plan.{sizes_of, load_plan, planned_as, entries_outcome}
+use Rattle.pool_stream.specs.Plan.{sizes_of, load_plan, entries_outcome}
 use Rattle.pool_stream.specs.inner.Sizes.{or_none, lengths_in, counts_in, Filling}
-use Rattle.pool_stream.specs.declared.plan.LoadPlan.{LoadPlan}
 use Rattle.pool_stream.proofs.Reading.{even}
 
 -- 3, 4, 5, 6 where these are the sizes
@@ -109,14 +106,14 @@ module _ (s : List ℕ) (stream : ℕ) (w : Rooms) where
   abbrev Filled : Answer (List ℕ × List ℕ) → Answer (ℕ × ℕ) × Rooms
   Filled a = outcome w (on_given a (λ x. gives ((length x.0, total x.0), rooms (x.0 over w.lengths) (x.1 over w.counts) w.text)))
 
-  -- the plan that was made, by another name
-  pub by_plan : {x y : LoadPlan} {m : ℕ} → x ≡ y → m ≡ entry_room_lem w → planned_as x ≡ sizes_of (load_plan s m stream (length w.text)) → planned_as y ≡ sizes_of Planned
-  by_plan f q e = ap planned_as (sym f) ∙ e ∙ ap (λ (k : ℕ). sizes_of (load_plan s k stream (length w.text))) q
+  -- the plan by the entry room
+  pub by_plan : {x : Answer (ℕ × ℕ)} {m : ℕ} → m ≡ entry_room_lem w → x ≡ sizes_of (load_plan s m stream (length w.text)) → x ≡ sizes_of Planned
+  by_plan q e = e ∙ ap (λ (k : ℕ). sizes_of (load_plan s k stream (length w.text))) q
 
-  pub entries-refused : (a : Answer (ℕ × ℕ)) (x : Refusal) → a ≡ refused_by x → refused_by x ≡ sizes_of Planned → (a, w) ≡ entries_outcome s stream w
-  entries-refused a x f e = ap (λ (y : Answer (ℕ × ℕ)). (y, w)) f ∙ go Planned e
+  pub entries-refused : {k : ℕ} {at : Place} → refused k at ≡ sizes_of Planned → (refused k at, w) ≡ entries_outcome s stream w
+  entries-refused {k} {at} e = go Planned e
     where
-      go : (b : Answer (List ℕ × List ℕ)) → refused_by x ≡ sizes_of b → (refused_by x, w) ≡ Filled b
+      go : (b : Answer (List ℕ × List ℕ)) → refused k at ≡ sizes_of b → (refused k at, w) ≡ Filled b
       go (gives y) q = absurd (refused-gives q)
       go (refused n at) q = ap (λ (y : Answer (ℕ × ℕ)). (y, w)) q
 

@@ -1,17 +1,19 @@
 -- Laws of a pool stream that is written, entry by entry, and of what a writer answers and leaves.
 use mathlib.Core.Path.{◌≡◌, refl, sym, ap, ap₂, ◌∙◌}
-use Prim.Native.Nat.{ℕ, zero, suc, ◌+◌, ◌-◌, ◌≤◌, ◌<◌}
-use native.Mathlib.Numerals.{add-one}
+use Prim.Native.Nat.{ℕ, ◌+◌, ◌*◌, ◌≤◌, ◌<◌}
 use native.Mathlib.Omega.{arith}
 use mathlib.Core.Bool.{Bool, true, false}
 use mathlib.Core.List.{List, [], ◌∷◌, ◌++◌, map, append_assoc, append-nil}
-use lib.ListN.{length, take, drop, get_or, length-append, length-drop}
-use lib.Seq.{take-suc, length-take-le}
+use lib.ListN.{length, take, drop, length-append, length-drop}
+use lib.Seq.{length-take-le}
+use Rattle.std.proofs.lemmas.List.{take-append-drop}
+use Rattle.std.proofs.lemmas.List.Sums.{sum_by-cons}
+use Rattle.std.specs.List.{sum, zip}
 use borrow.Author.Tests.{lt-ltb, le-ltb}
 use Rattle.common.specs.Choice.{when◌then◌else◌}
 use Rattle.common.specs.Lists.{◌over◌, over_at, joined, total}
 use Rattle.common.specs.Answers.{Answer, gives, refused, nowhere, outcome, written_to}
-use Rattle.common.proofs.Parts.{over_next}
+use Rattle.common.proofs.Parts.{over_next, length-over_at}
 use Rattle.little_endian.specs.Numbers.{bytes_of, put_outcome}
 use Rattle.little_endian.proofs.Laws.{written}
 use Rattle.pool_entries.specs.Entries.{Entry, Rooms, cut}
@@ -66,54 +68,61 @@ module _ (l c at : ℕ) (out o₁ o₂ : List ℕ) (room : at + 4 ≤ length out
 
 -- ---- entry after entry
 
-entries-snoc : (ls cs : List ℕ) (l c : ℕ) → length ls ≡ length cs → entries_bytes (ls ++ (l ∷ [])) (cs ++ (c ∷ [])) ≡ entries_bytes ls cs ++ entry_bytes l c
-entries-snoc [] [] l c e = append-nil (entry_bytes l c)
-entries-snoc [] (y ∷ cs) l c e = absurd (omega arith)
-entries-snoc (x ∷ ls) [] l c e = absurd (omega arith)
-entries-snoc (x ∷ ls) (y ∷ cs) l c e =
-    ap (λ (r : List ℕ). entry_bytes x y ++ r) (entries-snoc ls cs l c (omega arith)) ∙ sym (append_assoc (entry_bytes x y) (entries_bytes ls cs) (entry_bytes l c))
+-- of all bytes these are written from the output's byte 4 on, and the rest is to come
+pub record Through (all rest d out : List ℕ) (at : ℕ) : Type 0 where
+  pub done : List ℕ
+  pub whole : done ++ rest ≡ all
+  pub place : at ≡ 4 + length done
+  pub left : out ≡ over_at 4 done d
 
-pub entries-suc : (ls cs : List ℕ) (i : ℕ) → i < length ls → i < length cs
-    → entries_bytes (take (i + 1) ls) (take (i + 1) cs) ≡ entries_bytes (take i ls) (take i cs) ++ entry_bytes (get_or ls i 0) (get_or cs i 0)
-entries-suc ls cs i hl hc =
-    rw (add-one i)
-    (ap₂ entries_bytes (take-suc ls i 0 hl) (take-suc cs i 0 hc)
-    ∙ entries-snoc (take i ls) (take i cs) (get_or ls i 0) (get_or cs i 0) (length-take-le i ls (omega arith) ∙ sym (length-take-le i cs (omega arith))))
+pub through-none : (all d : List ℕ) → Through all all d d 4
+through-none all d = record { done = []; whole = refl; place = refl; left = sym (take-append-drop 4 d) }
 
-pub length-suc : (ls cs : List ℕ) (i : ℕ) → i < length ls → i < length cs
-    → length (entries_bytes (take (i + 1) ls) (take (i + 1) cs)) ≡ length (entries_bytes (take i ls) (take i cs)) + length (entry_bytes (get_or ls i 0) (get_or cs i 0))
-length-suc ls cs i hl hc = ap length (entries-suc ls cs i hl hc) ∙ length-append (entries_bytes (take i ls) (take i cs)) (entry_bytes (get_or ls i 0) (get_or cs i 0))
+-- an entry has room, and is written
+module _ {all rest d out : List ℕ} {at : ℕ} (t : Through all rest d out at) (room : 4 + length all ≤ length d) (x more : List ℕ) (e : rest ≡ x ++ more) where
+  size-is : length t.done + length x + length more ≡ length all
+  size-is = omega (arith, ap length t.whole, length-append t.done rest, ap length e, length-append x more)
 
--- more entries take no fewer bytes
-length-le : (ls cs : List ℕ) (i n : ℕ) → i ≤ n → n ≤ length ls → n ≤ length cs
-    → length (entries_bytes (take i ls) (take i cs)) ≤ length (entries_bytes (take n ls) (take n cs))
-length-le ls cs i n h hl hc = go (n - i) n (omega arith) hl hc
-  where
-    go : (d m : ℕ) → i + d ≡ m → m ≤ length ls → m ≤ length cs → length (entries_bytes (take i ls) (take i cs)) ≤ length (entries_bytes (take m ls) (take m cs))
-    go zero m e a b = let q : i ≡ m = omega arith in omega (arith, ap (λ (k : ℕ). length (entries_bytes (take k ls) (take k cs))) q)
-    go (suc d) m e a b =
-        let q : m ≡ i + d + 1 = omega arith in
-        omega (
-          arith,
-          go d (i + d) refl (omega arith) (omega arith),
-          length-suc ls cs (i + d) (omega arith) (omega arith),
-          ap (λ (k : ℕ). length (entries_bytes (take k ls) (take k cs))) q,
-        )
+  pub through-size : length out ≡ length d
+  through-size = ap length t.left ∙ length-over_at 4 t.done d (omega (arith, size-is))
 
--- a turn of the writer
-module _ (ls cs d : List ℕ) (n i : ℕ) (hl : n ≤ length ls) (hc : n ≤ length cs) (h : i < n)
-    (room : 4 + length (entries_bytes (take n ls) (take n cs)) ≤ length d) where
-  pub turn_room : 4 + length (entries_bytes (take i ls) (take i cs)) + length (entry_bytes (get_or ls i 0) (get_or cs i 0)) ≤ length d
-  turn_room = omega (arith, length-suc ls cs i (omega arith) (omega arith), length-le ls cs (i + 1) n (omega arith) hl hc)
+  pub through-room : at + length x ≤ length out
+  through-room = omega (arith, size-is, through-size, t.place)
 
-  pub turn_out : (out new : List ℕ) (at : ℕ) → out ≡ over_at 4 (entries_bytes (take i ls) (take i cs)) d
-      → at ≡ 4 + length (entries_bytes (take i ls) (take i cs)) → new ≡ over_at at (entry_bytes (get_or ls i 0) (get_or cs i 0)) out
-      → new ≡ over_at 4 (entries_bytes (take (i + 1) ls) (take (i + 1) cs)) d
-  turn_out out new at eo ea en =
-      let P : List ℕ = entries_bytes (take i ls) (take i cs) in
-      let x : List ℕ = entry_bytes (get_or ls i 0) (get_or cs i 0) in
-      en ∙ ap₂ (λ (k : ℕ) (o : List ℕ). over_at k x o) ea eo ∙ over_next P x d 4 (length P) (omega arith) refl
-      ∙ ap (λ (y : List ℕ). over_at 4 y d) (sym (entries-suc ls cs i (omega arith) (omega arith)))
+  pub through-next : {new : List ℕ} {n : ℕ} → n ≡ length x → new ≡ over_at at x out → Through all more d new (at + n)
+  through-next {new} {n} f g = record {
+    done = t.done ++ x;
+    whole = append_assoc t.done x more ∙ ap (λ (y : List ℕ). t.done ++ y) (sym e) ∙ t.whole;
+    place = omega (arith, f, t.place, length-append t.done x);
+    left = g ∙ ap₂ (λ (k : ℕ) (o : List ℕ). over_at k x o) t.place t.left ∙ over_next t.done x d 4 (length t.done) (omega (arith, size-is)) refl;
+  }
+
+pub through-all : {all rest d out : List ℕ} {at : ℕ} → Through all rest d out at → rest ≡ [] → out ≡ over_at 4 all d
+through-all {d = d} t e =
+    t.left ∙ ap (λ (y : List ℕ). over_at 4 y d) (sym (append-nil t.done) ∙ ap (λ (y : List ℕ). t.done ++ y) (sym e) ∙ t.whole)
+
+-- with no length or no count left no entry is
+pub none-left : (ls cs : List ℕ) → length ls ≡ 0 → entries_bytes ls cs ≡ []
+none-left [] cs e = refl
+none-left (l ∷ ls) cs e = absurd (omega arith)
+
+pub none-counted : (ls cs : List ℕ) → length cs ≡ 0 → entries_bytes ls cs ≡ []
+none-counted [] cs e = refl
+none-counted (l ∷ ls) [] e = refl
+none-counted (l ∷ ls) (c ∷ cs) e = absurd (omega arith)
+
+-- the sizes of the entries, summed
+pub sizes-sum : (ls cs : List ℕ) → sum (map (λ (p : ℕ × ℕ). length (entry_bytes p.0 p.1)) (zip ls cs)) ≡ length (entries_bytes ls cs)
+sizes-sum [] cs = refl
+sizes-sum (l ∷ ls) [] = refl
+sizes-sum (l ∷ ls) (c ∷ cs) =
+    sum_by-cons (λ (n : ℕ). n) (length (entry_bytes l c)) (map (λ (p : ℕ × ℕ). length (entry_bytes p.0 p.1)) (zip ls cs))
+    ∙ ap (λ (n : ℕ). length (entry_bytes l c) + n) (sizes-sum ls cs) ∙ sym (length-append (entry_bytes l c) (entries_bytes ls cs))
+
+pub length-few : (ls cs : List ℕ) → length (entries_bytes ls cs) ≤ 8 * length ls
+length-few [] cs = omega arith
+length-few (l ∷ ls) [] = omega arith
+length-few (l ∷ ls) (c ∷ cs) = omega (arith, length-append (entry_bytes l c) (entries_bytes ls cs), (length-entry l c).1, length-few ls cs)
 
 -- ---- what a writer answers
 

@@ -35,15 +35,7 @@ pub(crate) fn first_entry(left: &[u8]) -> PoolEntry
     }
     let length = read(left, 0, 2);
     let count = read(left, 2, 2);
-    if length != 0 {
-        return PoolEntry::One {
-            length,
-            count: count as u16,
-            wide: false,
-            size: 4,
-        };
-    }
-    if count == 0 {
+    if length != 0 || count == 0 {
         return PoolEntry::One {
             length,
             count: count as u16,
@@ -66,20 +58,14 @@ pub(crate) fn first_entry(left: &[u8]) -> PoolEntry
 pub(crate) fn short_of(size: u32) -> u32
     ensures { result ≡ short_of size }
 {
-    if size <= 65535 {
-        return size;
-    }
-    0
+    if size <= 65535 { size } else { 0 }
 }
 
 // Whether the 4-byte length follows.
 pub(crate) fn wide(size: u32, count: u16) -> bool
     ensures { result ≡ entries.wide size count }
 {
-    if short_of(size) != 0 {
-        return false;
-    }
-    count > 0
+    short_of(size) == 0 && count > 0
 }
 
 // How many bytes an entry takes.

@@ -7,6 +7,6 @@ mod load;
 mod plan;
 mod write;
 
-pub use crate::load::{entry_room, load_entries};
+pub use crate::load::{entry_room, load_entries, load_rooms};
 pub use crate::plan::LoadPlan;
 pub use crate::write::write_stream;

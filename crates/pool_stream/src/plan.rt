@@ -8,48 +8,49 @@ ghost use Rattle.pool_stream.specs.inner.Sizes.{sized_as};
 
 use crate::entry::{PoolEntry, first_entry};
 use common::Refusal;
-use order::{Fits, load_fits, streams_fit};
+use order::{load_fits, streams_fit};
 
+// A load of so many entries, whose texts take `used` bytes.
 #[derive(Clone, Copy)]
-pub enum LoadPlan {
-    Of(usize, usize),
-    Refused(Refusal),
+pub struct LoadPlan {
+    pub entries: usize,
+    pub used: usize,
 }
 
+// How many entries a pool stream has, and the sum of their lengths.
 #[derive(Clone, Copy)]
-pub(crate) enum Sized {
-    Is(usize, u64),
-    Cut,
+pub(crate) struct Sized {
+    pub entries: usize,
+    pub sum: u64,
 }
 
 // Judges a load: the pool stream, and the sizes of the entry room, the data stream and the text room.
-pub(crate) fn plan_load(pool: &[u8], entries: usize, stream: usize, text: usize) -> LoadPlan
+pub(crate) fn plan_load(
+    pool: &[u8],
+    entries: usize,
+    stream: usize,
+    text: usize,
+) -> Result<LoadPlan, Refusal>
     ensures { planned_as result ≡ sizes_of (load_plan pool.now entries stream text) }
 {
-    let fits = streams_fit(pool.len(), stream, text);
-    if let Fits::Refused(why) = fits {
-        return LoadPlan::Refused(why);
-    }
-    let sized = sizes(pool);
-    match sized {
-        Sized::Cut => LoadPlan::Refused(Refusal::EntryCut),
-        Sized::Is(n, sum) => plan_sized(n, sum, entries, stream, text),
-    }
+    streams_fit(pool.len(), stream, text)?;
+    let found = sizes(pool)?;
+    plan_sized(found, entries, stream, text)
 }
 
-// The same where the pool stream has n entries, none cut, whose lengths sum to sum.
-fn plan_sized(n: usize, sum: u64, entries: usize, stream: usize, text: usize) -> LoadPlan
-    ensures { planned_as result ≡ on_given (load_fits_lem n sum entries stream text) (λ _. gives (n, sum)) }
+// The same where the sizes of the pool stream are found, with no entry cut.
+fn plan_sized(found: Sized, entries: usize, stream: usize, text: usize) -> Result<LoadPlan, Refusal>
+    ensures { planned_as result ≡ on_given (load_fits_lem found.entries found.sum entries stream text) (λ _. gives (found.entries, found.sum)) }
 {
-    let fits = load_fits(n, sum, entries, stream, text);
-    match fits {
-        Fits::Refused(why) => LoadPlan::Refused(why),
-        Fits::Yes => LoadPlan::Of(n, sum as usize),
-    }
+    load_fits(found.entries, found.sum, entries, stream, text)?;
+    Ok(LoadPlan {
+        entries: found.entries,
+        used: found.sum as usize,
+    })
 }
 
-// How many entries the pool stream has, and the sum of their lengths.
-fn sizes(s: &[u8]) -> Sized
+// How many entries the pool stream has, and the sum of their lengths. A walk: an entry takes 4 or 8 bytes.
+fn sizes(s: &[u8]) -> Result<Sized, Refusal>
     requires { (4 ≤ length s.now) × (length s.now ≤ 268435455) }
     ensures { sized_as result ≡ sizes_of (pool_entries_lem s.now) }
 {
@@ -59,8 +60,8 @@ fn sizes(s: &[u8]) -> Sized
     loop {
         let entry = first_entry(&s[at..]);
         match entry {
-            PoolEntry::End { stray: _ } => return Sized::Is(n, sum),
-            PoolEntry::Cut => return Sized::Cut,
+            PoolEntry::End { stray: _ } => return Ok(Sized { entries: n, sum }),
+            PoolEntry::Cut => return Err(Refusal::EntryCut),
             PoolEntry::One {
                 length,
                 count: _,

@@ -2,8 +2,8 @@
 use mathlib.Core.Path.{refl, sym}
 use mathlib.Core.List.{[]}
 use lib.IntN.{pos}
+use Rattle.std.specs.Prelude.{Ok}
 use Rattle.cell.specs.declared.value.Value.TheVariants.{Str}
-use Rattle.stringpool.specs.declared.takes.Taken.TheVariants.{Ref}
 use Rattle.stringpool.specs.Take.{first_free_or_equal, equal_then_free_lem}
 use Rattle.stringpool.specs.Points.{short, k_rooms}
 use Rattle.stringpool.proofs.Points.{counts-up_there}
@@ -20,6 +20,6 @@ judged-too =
 -- by the take of stringpool's point
 pub created_by : CreatedBy
 created_by = (
-  sym (create_text Str [] (short 3) k_rooms equal_then_free_lem _ (Ref (record { 0 = pos 3 }) (short 3)) refl (sym counts-up_there.0)),
-  sym (create_text Str [] (short 3) k_rooms first_free_or_equal _ (Ref (record { 0 = pos 2 }) (short 3)) refl (sym counts-up_there.1)),
+  sym (create_text [] (short 3) k_rooms _ equal_then_free_lem (Ok (record { reference = record { 0 = pos 3 }; pool = short 3 })) Str refl (sym counts-up_there.0)),
+  sym (create_text [] (short 3) k_rooms _ first_free_or_equal (Ok (record { reference = record { 0 = pos 2 }; pool = short 3 })) Str refl (sym counts-up_there.1)),
 )

@@ -1,19 +1,18 @@
 -- Values and the string pool: create, remove and to_value, thin over the pool's calls, with their refusals; a text stands beside the value.
-use Rattle.std.specs.Prelude.{ℕ, List, [], ℤ, pos, length}
+use Rattle.std.specs.Prelude.{ℕ, List, [], ℤ, pos, length, Result}
 use Rattle.common.specs.Choice.{when◌then◌else◌, ◌<?◌, ◌=?◌}
 use Rattle.common.specs.Sizes.{max_bytes}
 use Rattle.common.specs.Answers.{Answer, gives, refused, nowhere, on_given, outcome}
-use Rattle.common.specs.Refusals.{refused_by}
+use Rattle.common.specs.Refusals.{answer_as}
+use Rattle.common.specs.declared.refusal.Refusal.{Refusal}
 use Rattle.stringpool.specs.declared.pool.StringPool.{StringPool}
 use Rattle.stringpool.specs.Pool.{Rooms, on_sound}
 use Rattle.stringpool.specs.Take.{Chooser, take_answer}
 use Rattle.stringpool.specs.Drop.{drop_answer}
 use Rattle.stringpool.specs.Show.{show_answer}
+use Rattle.cell.specs.declared.value.Value.{Value}
 use Rattle.cell.specs.Kinds.{ref_kind, ref_number, value_kind, value_number}
 use Rattle.pool_values.specs.declared.Created.{Created}
-use Rattle.pool_values.specs.declared.Created.TheVariants as created
-use Rattle.pool_values.specs.declared.Shown.{Shown}
-use Rattle.pool_values.specs.declared.Shown.TheVariants as shown
 
 -- a value that is no text leaves the pool as it is, after 22 for the text and for the room, and 24
 abbrev pub plain_answer : ℕ → ℤ → List ℕ → StringPool → Rooms → Answer (((ℕ × ℤ) × StringPool) × Rooms)
@@ -43,10 +42,14 @@ text_answer kind n p w = when kind =? 2 then show_answer p w n else on_sound p w
 abbrev pub shown_answer : ℕ → ℤ → StringPool → Rooms → Answer (ℕ × ℤ)
 shown_answer kind n p w = on_given (text_answer kind n p w) (λ t. gives (kind, when kind =? 2 then pos 0 else n))
 
-abbrev pub created_as : Created → Answer ((ℕ × ℤ) × StringPool)
-created_as (created.Value v p) = gives ((ref_kind v, ref_number v), p)
-created_as (created.Refused x) = refused_by x
+abbrev pub created_of : Created → (ℕ × ℤ) × StringPool
+created_of c = ((ref_kind c.value, ref_number c.value), c.pool)
 
-abbrev pub shown_as : Shown → Answer (ℕ × ℤ)
-shown_as (shown.Value v) = gives (value_kind v, value_number v)
-shown_as (shown.Refused x) = refused_by x
+abbrev pub created_as : Result Created Refusal → Answer ((ℕ × ℤ) × StringPool)
+created_as made = answer_as created_of made
+
+abbrev pub shown_of : Value → ℕ × ℤ
+shown_of v = (value_kind v, value_number v)
+
+abbrev pub shown_as : Result Value Refusal → Answer (ℕ × ℤ)
+shown_as shown = answer_as shown_of shown

@@ -1,13 +1,14 @@
 // Values and the string pool: a value is created with its text, removed, and shown again. A text stands beside the enum.
 #![tactic(auto)]
 
-ghost use Rattle.std.specs.Prelude.{◌≡◌, false, pos};
-ghost use Rattle.stringpool.specs.Pool.{rooms, pooled_as};
+ghost use Rattle.std.specs.Prelude.{◌≡◌, pos};
+ghost use Rattle.common.specs.Refusals.{answered};
+ghost use Rattle.stringpool.specs.Pool.{rooms_of, rooms_held, SameRooms};
 ghost use Rattle.stringpool.specs.Take.{first_free_or_equal, equal_then_free_lem};
 ghost use Rattle.stringpool.specs.Show.{or_empty};
 ghost use Rattle.cell.specs.Kinds.{ref_kind, ref_number, value_kind, value_number};
 ghost use Rattle.pool_values.specs.Pooled.{created_as, plain_answer, create_outcome, remove_outcome, shown_as, shown_answer, text_answer};
-ghost use Rattle.pool_values.specs.inner.Pooled.{created_of_lem, plain_of, kept_by_lem, shown_of_lem};
+ghost use Rattle.pool_values.specs.inner.Pooled.{plain_of_lem, shown_of_lem, text_created};
 ghost use Rattle.common.specs.Choice.{when◌then◌else◌, ◌=?◌};
 ghost use Rattle.common.specs.Answers.{outcome};
 
@@ -15,18 +16,13 @@ pub use cell::Value;
 use cell::ValueRef;
 use common::Refusal;
 use common::sizes::MAX_BYTES;
-use stringpool::{Pooled, Showable, StringPool, StringRef, Taken};
+use stringpool::{Rooms, RoomsMut, StringPool, StringRef, Taken};
 
+// A value that was created, and the pool after it.
 #[derive(Clone, Copy)]
-pub enum Created {
-    Value(ValueRef, StringPool),
-    Refused(Refusal),
-}
-
-#[derive(Clone, Copy)]
-pub enum Shown {
-    Value(Value),
-    Refused(Refusal),
+pub struct Created {
+    pub value: ValueRef,
+    pub pool: StringPool,
 }
 
 // A text is taken into the pool, by the default choice; any other value leaves it as it is.
@@ -34,17 +30,16 @@ pub fn create(
     value: Value,
     new: &[u8],
     pool: StringPool,
-    lengths: &mut [u32],
-    counts: &mut [u16],
-    text: &mut [u8],
-) -> Created
-    ensures { (created_as result, rooms lengths.new counts.new text.new)
-        ≡ create_outcome equal_then_free_lem (value_kind value) (value_number value) new.now pool (rooms lengths.old counts.old text.old) }
+    rooms: &mut RoomsMut<'_>,
+) -> Result<Created, Refusal>
+    ensures same { SameRooms rooms.old rooms.new }
+    ensures outcome { (created_as result, rooms_held rooms.new)
+        ≡ create_outcome equal_then_free_lem (value_kind value) (value_number value) new.now pool (rooms_held rooms.old) }
 {
-    if is_text(value) {
-        return created_of(pool.incref(lengths, counts, text, new));
+    match plain_of(value) {
+        Some(plain) => create_plain(plain, new, pool, rooms.view()),
+        None => Ok(Created::from(pool.incref(rooms, new)?)),
     }
-    create_plain(value, new, pool, lengths, counts, text)
 }
 
 // The same by the old choice, document 01's.
@@ -52,123 +47,91 @@ pub fn create_first(
     value: Value,
     new: &[u8],
     pool: StringPool,
-    lengths: &mut [u32],
-    counts: &mut [u16],
-    text: &mut [u8],
-) -> Created
-    ensures { (created_as result, rooms lengths.new counts.new text.new)
-        ≡ create_outcome first_free_or_equal (value_kind value) (value_number value) new.now pool (rooms lengths.old counts.old text.old) }
+    rooms: &mut RoomsMut<'_>,
+) -> Result<Created, Refusal>
+    ensures same { SameRooms rooms.old rooms.new }
+    ensures outcome { (created_as result, rooms_held rooms.new)
+        ≡ create_outcome first_free_or_equal (value_kind value) (value_number value) new.now pool (rooms_held rooms.old) }
 {
-    if is_text(value) {
-        return created_of(pool.incref_first(lengths, counts, text, new));
+    match plain_of(value) {
+        Some(plain) => create_plain(plain, new, pool, rooms.view()),
+        None => Ok(Created::from(pool.incref_first(rooms, new)?)),
     }
-    create_plain(value, new, pool, lengths, counts, text)
 }
 
 // A reference is dropped; any other value leaves the pool as it is.
 pub fn remove(
     value: ValueRef,
     pool: StringPool,
-    lengths: &mut [u32],
-    counts: &mut [u16],
-    text: &mut [u8],
-) -> Pooled
-    ensures { (pooled_as result, rooms lengths.new counts.new text.new)
-        ≡ remove_outcome (ref_kind value) (ref_number value) pool (rooms lengths.old counts.old text.old) }
+    rooms: &mut RoomsMut<'_>,
+) -> Result<StringPool, Refusal>
+    ensures same { SameRooms rooms.old rooms.new }
+    ensures outcome { (answered result, rooms_held rooms.new)
+        ≡ remove_outcome (ref_kind value) (ref_number value) pool (rooms_held rooms.old) }
 {
     if is_reference(value) {
-        return pool.decref(lengths, counts, text, value.number());
+        return pool.decref(rooms, value.number());
     }
-    kept_by(
-        pool,
-        pool.get_refusal(lengths, counts, text, StringRef::MIN),
-    )
+    pool.get_refusal(rooms.view(), StringRef::MIN)?;
+    Ok(pool)
 }
 
 // The value; where it is a text, `to_text` hands it out.
-pub fn to_value(
-    value: ValueRef,
-    pool: StringPool,
-    lengths: &[u32],
-    counts: &[u16],
-    text: &[u8],
-) -> Shown
-    ensures { shown_as result ≡ shown_answer (ref_kind value) (ref_number value) pool (rooms lengths.now counts.now text.now) }
+pub fn to_value(value: ValueRef, pool: StringPool, rooms: Rooms<'_, '_>) -> Result<Value, Refusal>
+    ensures { shown_as result ≡ shown_answer (ref_kind value) (ref_number value) pool (rooms_of rooms.entry) }
 {
-    let sound = pool.get_refusal(lengths, counts, text, asked_for(value));
-    if let Showable::Refused(refusal) = sound {
-        return Shown::Refused(refusal);
-    }
-    Shown::Value(shown_of(value))
+    pool.get_refusal(rooms, asked_for(value))?;
+    Ok(shown_of(value))
 }
 
 // The text of a reference as a part of the lent text room; empty for any other value, and where the call is refused.
-pub fn to_text<'a>(
-    value: ValueRef,
-    pool: StringPool,
-    lengths: &[u32],
-    counts: &[u16],
-    text: &'a [u8],
-) -> &'a [u8]
-    ensures { result.now ≡ or_empty (text_answer (ref_kind value) (ref_number value) pool (rooms lengths.now counts.now text.now)) }
+pub fn to_text<'a>(value: ValueRef, pool: StringPool, rooms: Rooms<'_, 'a>) -> &'a [u8]
+    ensures { result.now ≡ or_empty (text_answer (ref_kind value) (ref_number value) pool (rooms_of rooms.entry)) }
 {
     if is_reference(value) {
-        return pool.get(lengths, counts, text, value.number());
+        return pool.get(rooms, value.number());
     }
-    &text[..0]
+    &rooms.text[..0]
 }
 
 // What is created of a value that is no text.
 fn create_plain(
-    value: Value,
+    value: ValueRef,
     new: &[u8],
     pool: StringPool,
-    lengths: &[u32],
-    counts: &[u16],
-    text: &[u8],
-) -> Created
-    requires { (value_kind value =? 2) ≡ false }
-    ensures { (created_as result, rooms lengths.now counts.now text.now)
-        ≡ outcome (rooms lengths.now counts.now text.now)
-        (plain_answer (value_kind value) (value_number value) new.now pool (rooms lengths.now counts.now text.now)) }
+    rooms: Rooms<'_, '_>,
+) -> Result<Created, Refusal>
+    ensures { (created_as result, rooms_of rooms.entry)
+        ≡ outcome (rooms_of rooms.entry) (plain_answer (ref_kind value) (ref_number value) new.now pool (rooms_of rooms.entry)) }
 {
     if MAX_BYTES < new.len() {
-        return Created::Refused(Refusal::OverSize);
+        return Err(Refusal::OverSize);
     }
-    let sound = pool.get_refusal(lengths, counts, text, StringRef::MIN);
-    if let Showable::Refused(refusal) = sound {
-        return Created::Refused(refusal);
-    }
-    Created::Value(plain_of(value), pool)
+    pool.get_refusal(rooms, StringRef::MIN)?;
+    Ok(Created { value, pool })
 }
 
-fn created_of(taken: Taken) -> Created
-    ensures { result ≡ created_of_lem taken }
-{
-    match taken {
-        Taken::Ref(reference, pool) => Created::Value(ValueRef::Str(reference), pool),
-        Taken::Refused(refusal) => Created::Refused(refusal),
+impl From<Taken> for Created {
+    ghost from_gives = { λ t c. c ≡ text_created t };
+
+    // A text that was taken.
+    fn from(taken: Taken) -> Created {
+        Created {
+            value: ValueRef::Str(taken.reference),
+            pool: taken.pool,
+        }
     }
 }
 
-// A value that is no text.
-fn plain_of(value: Value) -> ValueRef
-    ensures { result ≡ plain_of value }
+// The value as it is stored, where it is no text.
+fn plain_of(value: Value) -> Option<ValueRef>
+    ensures { result ≡ plain_of_lem value }
 {
     match value {
-        Value::Null => ValueRef::Null,
-        Value::Int(n) => ValueRef::Int(n),
-        Value::Str => ValueRef::Null,
-        Value::Binary => ValueRef::Binary,
-    }
-}
-
-fn kept_by(pool: StringPool, sound: Showable) -> Pooled
-    ensures { result ≡ kept_by_lem pool sound }
-{
-    match sound {
-        Showable::Yes => Pooled::Is(pool),
-        Showable::Refused(refusal) => Pooled::Refused(refusal),
+        Value::Null => Some(ValueRef::Null),
+        Value::Int(n) => Some(ValueRef::Int(n)),
+        Value::Str => None,
+        Value::Binary => Some(ValueRef::Binary),
     }
 }
 
@@ -185,18 +148,7 @@ fn asked_for(value: ValueRef) -> i32
 fn is_reference(value: ValueRef) -> bool
     ensures { result ≡ (ref_kind value =? 2) }
 {
-    value.kind() == 2
-}
-
-fn is_text(value: Value) -> bool
-    ensures { result ≡ (value_kind value =? 2) }
-{
-    match value {
-        Value::Null => false,
-        Value::Int(_) => false,
-        Value::Str => true,
-        Value::Binary => false,
-    }
+    matches!(value, ValueRef::Str(_))
 }
 
 fn shown_of(value: ValueRef) -> Value

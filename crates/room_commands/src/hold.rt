@@ -1,103 +1,74 @@
 // The first places of a room hold what a command says.
 ghost use Rattle.std.specs.Prelude.{◌≡◌, IfOk};
+ghost use Rattle.stringpool.specs.Pool.{SameRooms};
 
-use commands::numbers::count_at;
-use commands::words::{WORD, bytes_at, bytes_in, end_of, is, next, number_at};
-use commands::{lists, shown};
+use commands::lists::Items;
+use commands::shown;
+use commands::words::Words;
 use std::io;
 use std::io::Write;
+use stringpool::RoomsMut;
 
-// Whether a list has at most `places` numbers, and none above `most`.
-fn fits(s: &[u8], at: usize, most: u64, places: usize) -> bool {
-    let end = end_of(s, at, WORD);
-    let mut item = lists::first(s, at);
-    let mut left = places;
-    while left > 0 {
-        if item.at >= end {
+// Whether a list has at most `places` numbers, each one that a place holds.
+fn fits<T: TryFrom<u64> + Drop>(words: Words<'_>, places: usize) -> bool
+where
+    T::Error: Drop,
+{
+    let mut items = Items::of(words);
+    for _ in 0..places {
+        let Some(item) = items.next() else {
             return true;
-        }
-        if number_at(s, item.at) > most {
+        };
+        if T::try_from(item.number()).is_err() {
             return false;
         }
-        item = lists::next(s, item);
-        left -= 1;
     }
-    item.at >= end
+    items.next().is_none()
 }
 
-fn put_lengths(s: &[u8], at: usize, room: &mut [u32]) {
-    let end = end_of(s, at, WORD);
-    let mut item = lists::first(s, at);
-    let mut i = 0;
-    while i < room.len() {
-        let place = item.at;
-        if place >= end {
-            return;
+fn put<T: TryFrom<u64> + Copy>(words: Words<'_>, room: &mut [T])
+where
+    T::Error: Drop,
+{
+    for (place, item) in room.iter_mut().zip(Items::of(words)) {
+        if let Ok(number) = T::try_from(item.number()) {
+            *place = number;
         }
-        room[i] = count_at(s, place);
-        item = lists::next(s, item);
-        i += 1;
     }
 }
 
-fn hold_lengths<W: Write>(w: &mut W, s: &[u8], at: usize, room: &mut [u32]) -> io::Result<()> {
-    if fits(s, at, 4_294_967_295, room.len()) {
-        put_lengths(s, at, room);
-        return shown::say(w, b"ok");
-    }
-    shown::say(w, b"bad")
-}
-
-fn put_counts(s: &[u8], at: usize, room: &mut [u16]) {
-    let end = end_of(s, at, WORD);
-    let mut item = lists::first(s, at);
-    let mut i = 0;
-    while i < room.len() {
-        let place = item.at;
-        if place >= end {
-            return;
-        }
-        room[i] = (count_at(s, place) % 65536) as u16;
-        item = lists::next(s, item);
-        i += 1;
-    }
-}
-
-fn hold_counts<W: Write>(w: &mut W, s: &[u8], at: usize, room: &mut [u16]) -> io::Result<()> {
-    if fits(s, at, 65_535, room.len()) {
-        put_counts(s, at, room);
-        return shown::say(w, b"ok");
-    }
-    shown::say(w, b"bad")
-}
-
-fn hold_text<W: Write>(w: &mut W, s: &[u8], at: usize, room: &mut [u8]) -> io::Result<()> {
-    if bytes_at(s, at) > room.len() {
+fn numbers<W: Write, T: TryFrom<u64> + Copy>(
+    w: &mut W,
+    words: Words<'_>,
+    room: &mut [T],
+) -> io::Result<()>
+where
+    T::Error: Drop,
+{
+    if !fits::<T>(words, room.len()) {
         return shown::say(w, b"bad");
     }
-    bytes_in(s, at, room);
+    put(words, room);
+    shown::say(w, b"ok")
+}
+
+fn text<W: Write>(w: &mut W, words: Words<'_>, room: &mut [u8]) -> io::Result<()> {
+    if words.bytes_len() > room.len() {
+        return shown::say(w, b"bad");
+    }
+    words.bytes_in(room);
     shown::say(w, b"ok")
 }
 
 // `hold lengths NUMBERS`, `hold counts NUMBERS`, `hold text BYTES`
-pub fn hold<W: Write>(
-    w: &mut W,
-    s: &[u8],
-    at: usize,
-    lengths: &mut [u32],
-    counts: &mut [u16],
-    text: &mut [u8],
-) -> io::Result<()>
-    ensures { IfOk result (λ u. u ≡ tt) }
+pub fn hold<W: Write>(w: &mut W, words: Words<'_>, rooms: &mut RoomsMut<'_>) -> io::Result<()>
+    ensures same { SameRooms rooms.old rooms.new }
+    ensures answers { IfOk result (λ u. u ≡ tt) }
 {
-    if is(s, at, b"lengths") {
-        return hold_lengths(w, s, next(s, at), lengths);
+    match words.word() {
+        b"lengths" => numbers(w, words.next(), &mut *rooms.lengths),
+        b"counts" => numbers(w, words.next(), &mut *rooms.counts),
+        b"text" => text(w, words.next(), &mut *rooms.text),
+        _ => shown::say(w, b"bad"),
     }
-    if is(s, at, b"counts") {
-        return hold_counts(w, s, next(s, at), counts);
-    }
-    if is(s, at, b"text") {
-        return hold_text(w, s, next(s, at), text);
-    }
-    shown::say(w, b"bad")
 }

@@ -11,15 +11,13 @@ ghost use Rattle.std.specs.Io.KnownBytes.{Appends};
 ghost use Rattle.common.specs.Choice.{when◌then◌else◌, ◌=?◌};
 ghost use Rattle.commands.specs.Words.{is_none, count_at_lem};
 
-use commands::lists::is_none;
-use commands::numbers::count_at;
 use commands::shown;
-use commands::words::{byte, next};
+use commands::words::Words;
 use std::io;
 use std::io::Write;
 use stringpool::StringPool;
 
-// All places that there are, or as many as an output needs.
+// All places that there are, or as many as an output needs. A number, since a command may give it.
 pub const ALL: usize = 4_294_967_295;
 
 // What the commands have beside the arrays of the rooms and of the last output.
@@ -84,30 +82,29 @@ impl Desk {
 }
 
 // `out N`, `out -`
-pub fn out<W: Write>(w: &mut W, s: &[u8], at: usize, mut desk: Desk) -> io::Result<Desk>
-    ensures answers { IfOk result (λ d. (d.places ≡ (when is_none s.now at then 4294967295 else count_at_lem s.now at)) × (d.pool ≡ desk.pool) × (d.lengths ≡ desk.lengths) × (d.counts ≡ desk.counts) × (d.text ≡ desk.text) × (d.left ≡ desk.left) × (d.width ≡ desk.width)) }
+pub fn out<W: Write>(w: &mut W, words: Words<'_>, mut desk: Desk) -> io::Result<Desk>
+    ensures answers { IfOk result (λ d. (d.places ≡ (when is_none words.entry.text.now words.entry.at then 4294967295 else count_at_lem words.entry.text.now words.entry.at)) × (d.pool ≡ desk.pool) × (d.lengths ≡ desk.lengths) × (d.counts ≡ desk.counts) × (d.text ≡ desk.text) × (d.left ≡ desk.left) × (d.width ≡ desk.width)) }
     ensures written { OnOk result (Appends (W.contents w.old) (W.contents w.new) (codes "ok")) }
 {
     shown::say(w, b"ok")?;
-    if is_none(s, at) {
-        desk.places = ALL;
-        return Ok(desk);
-    }
-    let places = count_at(s, at) as usize;
-    desk.places = places;
+    desk.places = if words.is_none() {
+        ALL
+    } else {
+        words.count() as usize
+    };
     Ok(desk)
 }
 
 // `pool ENTRIES LONG CP`
-pub fn pool<W: Write>(w: &mut W, s: &[u8], at: usize, desk: Desk) -> io::Result<Desk>
+pub fn pool<W: Write>(w: &mut W, words: Words<'_>, desk: Desk) -> io::Result<Desk>
     ensures answers { IfOk result (λ d. (d.lengths ≡ desk.lengths) × (d.counts ≡ desk.counts) × (d.text ≡ desk.text) × (d.places ≡ desk.places) × (d.left ≡ desk.left) × (d.width ≡ desk.width)) }
     ensures written { OnOk result (Appends (W.contents w.old) (W.contents w.new) (codes "ok")) }
 {
-    let long = next(s, at);
+    let long = words.next();
     shown::say(w, b"ok")?;
     Ok(desk.with_pool(StringPool {
-        num_strings: count_at(s, at) as usize,
-        long_string_refs: byte(s, long) == b'1',
-        codepage: count_at(s, next(s, long)),
+        num_strings: words.count() as usize,
+        long_string_refs: long.byte() == b'1',
+        codepage: long.next().count(),
     }))
 }

@@ -4,375 +4,179 @@
 ghost use Rattle.std.specs.Prelude.{◌≡◌, length, IfOk};
 
 use cell::ValueRef;
-use commands::words::{bytes_in, front, next, number_at, product};
+use commands::kept::FILL;
+use commands::lists::Handed;
+use commands::shown::Show;
+use commands::words::{Words, front, product};
 use commands::{kept, places, shown};
-use pool_values::Shown;
+use common::Refusal;
 use room_commands::Desk;
-use rows::NextCell;
+use rows::Rows;
 use std::io;
 use std::io::Write;
-use stringpool::StringPool;
-use table::{CellRead, Counted, Laid, Table};
+use stringpool::{Rooms, StringPool};
+use table::Table;
+use table_commands::FILL_NUMBER;
 use table_commands::layouts::{laid, refused};
-use table_commands::{kinds_room, numbers_room};
 
-// An array that a call gives back is known by its size, and not place by place.
-fn stream_room() -> [u8; 270000] {
-    [0u8; 270000]
-}
-
-fn comma<W: Write>(w: &mut W, i: usize) -> io::Result<()> {
-    if i > 0 {
+fn comma<W: Write>(w: &mut W, at: usize) -> io::Result<()> {
+    if at > 0 {
         shown::say(w, b",")?;
     }
     Ok(())
 }
 
-// Cells that are all the same, more than 64 of them.
-fn are_long(kinds: &[u8], numbers: &[i32]) -> bool {
-    if kinds.len() < 65 {
-        return false;
+// Cells as they are handed over.
+#[derive(Clone, Copy)]
+struct Plain;
+
+impl Show<Handed> for Plain {
+    fn show<W: Write>(&self, w: &mut W, at: usize, cell: Handed) -> io::Result<()> {
+        comma(w, at)?;
+        shown::cell(w, cell)
     }
-    let mut bytes = stream_room();
-    let n = kept::numbers(numbers, &mut bytes);
-    let m = places::bytes(&bytes, n);
-    if shown::same(kinds, 1) {
-        return shown::is_long(kinds.len(), shown::same(&bytes[..m], 4));
-    }
-    false
 }
 
-// A cell; its text in place of a reference, where texts are asked for.
-fn value_out<W: Write>(
-    w: &mut W,
-    kind: u8,
-    number: i32,
-    texts: bool,
+// Values, a reference by its text in a pool.
+#[derive(Clone, Copy)]
+struct Texts<'a> {
     pool: StringPool,
-    lengths: &[u32],
-    counts: &[u16],
-    text: &[u8],
-) -> io::Result<()> {
-    if texts {
-        if kind == 2 {
-            return shown::text(w, pool.get(lengths, counts, text, number));
+    rooms: Rooms<'a, 'a>,
+}
+
+impl Show<ValueRef> for Texts<'_> {
+    fn show<W: Write>(&self, w: &mut W, at: usize, value: ValueRef) -> io::Result<()> {
+        comma(w, at)?;
+        match value {
+            ValueRef::Str(text) => shown::text(w, self.pool.get(self.rooms, text.0)),
+            _ => shown::cell(w, value.into()),
         }
     }
-    shown::cell(w, kind, number)
 }
 
-fn values_out<W: Write>(
-    w: &mut W,
-    kinds: &[u8],
-    values: &[i32],
-    texts: bool,
-    pool: StringPool,
-    lengths: &[u32],
-    counts: &[u16],
-    text: &[u8],
-) -> io::Result<()> {
-    for i in 0..kinds.len() {
-        if values.len() <= i {
-            return Ok(());
-        }
-        comma(w, i)?;
-        value_out(w, kinds[i], values[i], texts, pool, lengths, counts, text)?;
+fn cells_out<W: Write>(w: &mut W, rows: usize, kinds: &[u8], numbers: &[i32]) -> io::Result<()> {
+    let mut cells = [Handed { kind: 0, number: 0 }; 65_600];
+    for (cell, (kind, number)) in cells.iter_mut().zip(kinds.iter().zip(numbers)) {
+        *cell = Handed {
+            kind: *kind,
+            number: *number,
+        };
     }
-    Ok(())
-}
-
-fn list<W: Write>(
-    w: &mut W,
-    kinds: &[u8],
-    values: &[i32],
-    texts: bool,
-    pool: StringPool,
-    lengths: &[u32],
-    counts: &[u16],
-    text: &[u8],
-) -> io::Result<()> {
-    if kinds.len() == 0 {
-        return shown::say(w, b"-");
-    }
-    if are_long(kinds, values) {
-        values_out(
-            w,
-            front(kinds, 1),
-            values,
-            texts,
-            pool,
-            lengths,
-            counts,
-            text,
-        )?;
-        return shown::times(w, kinds.len());
-    }
-    values_out(w, kinds, values, texts, pool, lengths, counts, text)
-}
-
-fn cells_out<W: Write>(
-    w: &mut W,
-    rows: usize,
-    kinds: &[u8],
-    numbers: &[i32],
-    cells: usize,
-    texts: bool,
-    pool: StringPool,
-    lengths: &[u32],
-    counts: &[u16],
-    text: &[u8],
-) -> io::Result<()> {
-    shown::say(w, b"ok ")?;
-    shown::number(w, rows)?;
-    shown::say(w, b" ")?;
-    let n = places::bytes(kinds, cells);
-    let m = places::numbers(numbers, cells);
-    list(
-        w,
-        &kinds[..n],
-        &numbers[..m],
-        texts,
-        pool,
-        lengths,
-        counts,
-        text,
-    )
-}
-
-fn rows_of(counted: Counted) -> usize {
-    match counted {
-        Counted::Count(rows) => rows,
-        Counted::Refused(_) => 0,
-    }
-}
-
-fn read_cells<W: Write>(
-    w: &mut W,
-    s: &[u8],
-    at: usize,
-    table: Table,
-    stream: &[u8],
-    kinds: &mut [u8],
-    numbers: &mut [i32],
-    rows: usize,
-    pool: StringPool,
-    out: &mut [u8],
-) -> io::Result<usize> {
-    let answer = table.read_rows(stream, kinds, numbers);
-    match answer {
-        Counted::Count(cells) => {
-            cells_out(w, rows, kinds, numbers, cells, false, pool, &[], &[], &[])?
-        }
-        Counted::Refused(why) => refused(w, s, at, why)?,
-    }
-    Ok(kept::cells(kinds, numbers, out))
+    write!(w, "ok {rows} ")?;
+    shown::list(w, front(&cells, kinds.len()), &Plain)
 }
 
 fn read_table<W: Write>(
     w: &mut W,
-    s: &[u8],
-    at: usize,
+    words: Words<'_>,
     table: Table,
     stream: &[u8],
-    desk: Desk,
-    out: &mut [u8],
-) -> io::Result<Desk> {
-    let mut kinds = kinds_room();
-    let mut numbers = numbers_room();
-    let rows = rows_of(table.num_rows(stream));
-    let n = places::bytes(&kinds, desk.output(product(rows, table.count as u64)));
-    let m = places::numbers(&numbers, n);
-    let left = read_cells(
-        w,
-        s,
-        at,
-        table,
-        stream,
-        &mut kinds[..n],
-        &mut numbers[..m],
-        rows,
-        desk.pool,
-        out,
-    )?;
-    Ok(desk.leaves(left, 5))
-}
-
-// `read LONG LAYOUT BYTES`
-pub fn read<W: Write>(
-    w: &mut W,
-    s: &[u8],
-    at: usize,
     desk: Desk,
     out: &mut [u8],
 ) -> io::Result<Desk>
     ensures { length out.new ≡ length out.old }
 {
-    let mut stream = stream_room();
-    let n = bytes_in(s, next(s, next(s, at)), &mut stream);
-    let made = laid(s, at);
-    let answer = made.answer;
-    match answer {
-        Laid::Made => read_table(w, s, at, made.table, front(&stream, n), desk, out),
-        Laid::Refused(why) => {
+    let mut kinds = [FILL; 65_600];
+    let mut numbers = [FILL_NUMBER; 65_600];
+    let rows = table.num_rows(stream).unwrap_or(0);
+    let n = places::of(&kinds, desk.output(product(rows, table.count as u64)));
+    let kinds = &mut kinds[..n];
+    let numbers = &mut numbers[..n];
+    match table.read_rows(stream, kinds, numbers) {
+        Ok(cells) => cells_out(w, rows, front(kinds, cells), front(numbers, cells))?,
+        Err(why) => refused(w, words, why)?,
+    }
+    Ok(desk.leaves(kept::cells(kinds, numbers, out), 5))
+}
+
+// `read LONG LAYOUT BYTES`
+pub fn read<W: Write>(w: &mut W, words: Words<'_>, desk: Desk, out: &mut [u8]) -> io::Result<Desk>
+    ensures { length out.new ≡ length out.old }
+{
+    let mut stream = [0u8; 270_000];
+    let n = words.next().next().bytes_in(&mut stream);
+    match laid(words) {
+        Ok(table) => read_table(w, words, table, front(&stream, n), desk, out),
+        Err(why) => {
             shown::refused(w, why)?;
             Ok(desk)
         }
     }
 }
 
-fn read_place<W: Write>(
-    w: &mut W,
-    s: &[u8],
-    at: usize,
-    table: Table,
-    stream: &[u8],
-    row: usize,
-    column: usize,
-) -> io::Result<()> {
-    let answer = table.read_cell(stream, row, column);
-    match answer {
-        CellRead::Value(value) => {
-            shown::say(w, b"ok ")?;
-            shown::cell(w, value.kind(), value.number())
-        }
-        CellRead::Refused(why) => refused(w, s, at, why),
-    }
+// The cell of `LONG LAYOUT BYTES R C`.
+fn cell_at(words: Words<'_>) -> Result<ValueRef, Refusal> {
+    let bytes = words.next().next();
+    let row = bytes.next();
+    let table = laid(words)?;
+    let mut stream = [0u8; 270_000];
+    let n = bytes.bytes_in(&mut stream);
+    table.read_cell(
+        front(&stream, n),
+        row.number() as usize,
+        row.next().number() as usize,
+    )
 }
 
 // `place LONG LAYOUT BYTES R C`
-pub fn place<W: Write>(w: &mut W, s: &[u8], at: usize) -> io::Result<()>
+pub fn place<W: Write>(w: &mut W, words: Words<'_>) -> io::Result<()>
     ensures { IfOk result (λ u. u ≡ tt) }
 {
-    let mut stream = stream_room();
-    let bytes = next(s, next(s, at));
-    let n = bytes_in(s, bytes, &mut stream);
-    let row = next(s, bytes);
-    let made = laid(s, at);
-    let answer = made.answer;
-    match answer {
-        Laid::Made => read_place(
-            w,
-            s,
-            at,
-            made.table,
-            front(&stream, n),
-            number_at(s, row) as usize,
-            number_at(s, next(s, row)) as usize,
-        ),
-        Laid::Refused(why) => shown::refused(w, why),
+    match cell_at(words) {
+        Ok(value) => {
+            shown::say(w, b"ok ")?;
+            shown::cell(w, value.into())
+        }
+        Err(why) => refused(w, words, why),
     }
 }
 
-// The cells, one step after another, as many as there is room for: how many there are.
-fn walk(table: Table, stream: &[u8], kinds: &mut [u8], values: &mut [i32]) -> usize {
-    let mut at = 0;
-    let mut n = 0;
-    while n < kinds.len() {
-        if n >= values.len() {
-            return n;
-        }
-        let step = rows::next_at(stream, at, table);
-        let cell = step.cell;
-        let NextCell::Cell(value) = cell else {
+// The row reader's cells, as many as there is room for: how many there are.
+fn walk(table: Table, stream: &[u8], values: &mut [ValueRef]) -> usize {
+    let mut reader = Rows::new(stream);
+    for (n, value) in values.iter_mut().enumerate() {
+        let Ok(Some(next)) = reader.next(table).cell else {
             return n;
         };
-        kinds[n] = value.kind();
-        values[n] = value.number();
-        at = step.at;
-        n += 1;
+        *value = next;
     }
-    n
+    values.len()
 }
 
-// A pool that is not sound shows nothing of a cell.
-fn judged<W: Write>(
-    w: &mut W,
+// The rows of `LONG LAYOUT BYTES`, and how many cells were read. A pool that is not sound shows none.
+fn rows_of(
+    words: Words<'_>,
     pool: StringPool,
-    lengths: &[u32],
-    counts: &[u16],
-    text: &[u8],
-    cells: usize,
-) -> io::Result<bool> {
-    if cells == 0 {
-        return Ok(true);
+    rooms: Rooms<'_, '_>,
+    values: &mut [ValueRef],
+) -> Result<(usize, usize), Refusal> {
+    let table = laid(words)?;
+    let mut stream = [0u8; 270_000];
+    let n = words.next().next().bytes_in(&mut stream);
+    let stream = front(&stream, n);
+    let rows = table.num_rows(stream)?;
+    let cells = walk(table, stream, values);
+    if cells > 0 {
+        pool_values::to_value(ValueRef::Null, pool, rooms)?;
     }
-    let answer = pool_values::to_value(ValueRef::Null, pool, lengths, counts, text);
-    match answer {
-        Shown::Value(_) => Ok(true),
-        Shown::Refused(why) => {
-            shown::refused(w, why)?;
-            Ok(false)
-        }
-    }
+    Ok((rows, cells))
 }
 
-fn walked<W: Write>(
-    w: &mut W,
-    table: Table,
-    stream: &[u8],
-    rows: usize,
-    pool: StringPool,
-    lengths: &[u32],
-    counts: &[u16],
-    text: &[u8],
-) -> io::Result<()> {
-    let mut kinds = kinds_room();
-    let mut numbers = numbers_room();
-    let cells = walk(table, stream, &mut kinds, &mut numbers);
-    if judged(w, pool, lengths, counts, text, cells)? {
-        cells_out(
-            w, rows, &kinds, &numbers, cells, true, pool, lengths, counts, text,
-        )?;
-    }
-    Ok(())
-}
-
-fn counted<W: Write>(
-    w: &mut W,
-    s: &[u8],
-    at: usize,
-    table: Table,
-    stream: &[u8],
-    pool: StringPool,
-    lengths: &[u32],
-    counts: &[u16],
-    text: &[u8],
-) -> io::Result<()> {
-    let answer = table.num_rows(stream);
-    match answer {
-        Counted::Count(rows) => walked(w, table, stream, rows, pool, lengths, counts, text),
-        Counted::Refused(why) => refused(w, s, at, why),
-    }
-}
-
-// `rows LONG LAYOUT BYTES`
+// `rows LONG LAYOUT BYTES`: a reference is shown by its text.
 pub fn rows<W: Write>(
     w: &mut W,
-    s: &[u8],
-    at: usize,
+    words: Words<'_>,
     pool: StringPool,
-    lengths: &[u32],
-    counts: &[u16],
-    text: &[u8],
+    rooms: Rooms<'_, '_>,
 ) -> io::Result<()>
     ensures { IfOk result (λ u. u ≡ tt) }
 {
-    let mut stream = stream_room();
-    let n = bytes_in(s, next(s, next(s, at)), &mut stream);
-    let made = laid(s, at);
-    let answer = made.answer;
-    match answer {
-        Laid::Made => counted(
-            w,
-            s,
-            at,
-            made.table,
-            front(&stream, n),
-            pool,
-            lengths,
-            counts,
-            text,
-        ),
-        Laid::Refused(why) => shown::refused(w, why),
+    let mut values = [ValueRef::Null; 65_600];
+    match rows_of(words, pool, rooms, &mut values) {
+        Ok((rows, cells)) => {
+            write!(w, "ok {rows} ")?;
+            shown::list(w, front(&values, cells), &Texts { pool, rooms })
+        }
+        Err(why) => refused(w, words, why),
     }
 }

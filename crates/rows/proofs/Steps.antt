@@ -3,13 +3,13 @@ use mathlib.Core.Path.{◌≡◌, refl, sym, ◌∙◌, ap}
 use mathlib.Core.Bool.{Bool, true, false, ◌&&◌}
 use mathlib.Core.List.{List, [], ◌∷◌}
 use Prim.Native.Nat.{ℕ, zero, suc, ◌+◌, ◌*◌, ◌/◌, ◌%◌, ◌<◌, ◌≤◌}
-use native.Mathlib.Nat.{div-add-mod', mod-lt, div-lt_iff_lt-mul, mul-zero, mul-le-mul_right}
+use native.Mathlib.Nat.{div-add-mod', mod-lt, div-lt_iff_lt-mul, mul-zero}
 use native.Mathlib.Omega.{arith}
 use mathlib.Core.Logic.{⊎_elim}
 use lib.Dec.{ltb}
 use lib.IntN.{ℤ, pos}
 use lib.ListN.{length, get_or, drop, get_or-append}
-use borrow.Author.Tests.{lt-ltb, le-ltb, ltb-true, ltb-false, ne_eqb}
+use borrow.Author.Tests.{lt-ltb, le-ltb, ltb-true, ltb-false}
 use Rattle.common.specs.Lists.{◌over◌}
 use Rattle.common.specs.Choice.{when◌then◌else◌}
 use Rattle.common.specs.Answers.{Place, nowhere, column, Answer, gives, refused, on_given}
@@ -23,13 +23,11 @@ use Rattle.cell.specs.Forms.{sound_type}
 use Rattle.column.specs.declared.column.Column.{Column}
 use Rattle.widths.specs.Judged.{each_at, sound_column}
 use Rattle.widths.specs.Places.{rows_in}
-use Rattle.widths.proofs.Rows.{found}
 use Rattle.table.specs.Layout.{columns_of, types_of}
 use Rattle.table.specs.Rows.{cell_at, row_by_row}
 use Rattle.table.specs.Reading.{num_rows_answer, read_cell_answer, read_rows_outcome}
 use Rattle.table.proofs.Grid.{length-grid, grid_at}
 use Rattle.rows.specs.Next.{Next, another, none, cells_of, next_outcome}
-use Rattle.rows.specs.inner.Stopped.{stopped_at}
 use Rattle.rows.specs.Promises.{SameCells}
 
 pub positive : (n : ℕ) → (n ≡ 0 → ⊥) → 0 < n
@@ -119,36 +117,33 @@ module _ (t : Table) (s : List ℕ) (at : ℕ) (p : 0 < t.count) where
       go true = refl
       go false = refl
 
-  pub read_some : (v : ℕ × ℤ) → gives v ≡ read_cell_answer t s row (at % t.count) → (next_outcome t s at ≡ (gives (another v), at + 1)) × (at < 4194304)
+  pub read_some : (v : ℕ × ℤ) → gives v ≡ read_cell_answer t s row (at % t.count) → next_outcome t s at ≡ (gives (another v), at + 1)
   read_some v e = go (num_rows_answer t s) refl
     where
-      here : (rows : ℕ) → num_rows_answer t s ≡ gives rows → (b : Bool) → ltb row rows ≡ b → gives v ≡ (when b then gives (cell_of rows) else refused 15 nowhere) → (next_outcome t s at ≡ (gives (another v), at + 1)) × (at < 4194304)
+      here : (rows : ℕ) → num_rows_answer t s ≡ gives rows → (b : Bool) → ltb row rows ≡ b → gives v ≡ (when b then gives (cell_of rows) else refused 15 nowhere) → next_outcome t s at ≡ (gives (another v), at + 1)
       here rows q true h f =
           let same : cell_of rows ≡ v = cc in
           let i = step_cell t s at rows q p (ltb-true row rows h) in
-          let d = found t.columns t.count t.long_string_refs (length s) rows q in
-          (step_some t s at rows q v i.0 (i.1 ∙ same), omega (arith, i.0, mul-le-mul_right {m = rows} {n = 65536} t.count d.few, d.narrow))
+          step_some t s at rows q v i.0 (i.1 ∙ same)
       here rows q false h f = clash (cc)
 
-      go : (a : Answer ℕ) → num_rows_answer t s ≡ a → (next_outcome t s at ≡ (gives (another v), at + 1)) × (at < 4194304)
+      go : (a : Answer ℕ) → num_rows_answer t s ≡ a → next_outcome t s at ≡ (gives (another v), at + 1)
       go (gives rows) q = here rows q (ltb row rows) refl (e ∙ read_is rows q)
       go (refused n k) q = let f : gives v ≡ refused n k = rw q at e in clash (cc)
 
-  pub read_none : (n : ℕ) (k : Place) → refused n k ≡ read_cell_answer t s row (at % t.count) → stopped_at n k at ≡ next_outcome t s at
-  read_none n k e = go (num_rows_answer t s) refl
+  -- a place outside the table is past its last cell
+  pub read_past : (k : Place) → refused 15 k ≡ read_cell_answer t s row (at % t.count) → next_outcome t s at ≡ (gives none, at)
+  read_past k e = go (num_rows_answer t s) refl
     where
-      past : (rows : ℕ) → num_rows_answer t s ≡ gives rows → (b : Bool) → ltb row rows ≡ b → refused n k ≡ (when b then gives (cell_of rows) else refused 15 nowhere) → stopped_at n k at ≡ next_outcome t s at
-      past rows q true h f = cc
-      past rows q false h f =
-          let i : n ≡ 15 = cc in
-          rw i (sym (step_end t s at rows q (step_past t s at rows q p (ltb-false row rows h))))
+      past : (rows : ℕ) → num_rows_answer t s ≡ gives rows → (b : Bool) → ltb row rows ≡ b → refused 15 k ≡ (when b then gives (cell_of rows) else refused 15 nowhere) → next_outcome t s at ≡ (gives none, at)
+      past rows q true h f = clash (cc)
+      past rows q false h f = step_end t s at rows q (step_past t s at rows q p (ltb-false row rows h))
 
-      go : (a : Answer ℕ) → num_rows_answer t s ≡ a → stopped_at n k at ≡ next_outcome t s at
+      go : (a : Answer ℕ) → num_rows_answer t s ≡ a → next_outcome t s at ≡ (gives none, at)
       go (gives rows) q = past rows q (ltb row rows) refl (e ∙ read_is rows q)
       go (refused m j) q =
-          let f : refused n k ≡ refused m j = rw q at e in
-          let g : num_rows_answer t s ≡ refused n k = q ∙ same_refusal (sym f) in
-          rw (ne_eqb n 15 (never_15 t s n k g)) (step_refused t s at n k (sym g))
+          let f : refused 15 k ≡ refused m j = rw q at e in
+          absurd (never_15 t s m j q (sym (cc)))
 
 -- ---- the same cells as a bulk read
 

@@ -1,4 +1,3 @@
 pub mod Next
 pub mod Promises
 pub mod Points
-pub mod inner

@@ -1,16 +1,16 @@
 -- Document 01: "A row reader keeps the lent table stream and its place and answers one cell after another, row by row, as `Rows` does; after
 -- the last it answers that there is none, however often asked."
-use Rattle.std.specs.Prelude.{ℕ, zero, suc, ◌+◌, List, [], ◌∷◌, ℤ, pos, length, get_or}
+use Rattle.std.specs.Prelude.{ℕ, zero, suc, ◌+◌, List, [], ◌∷◌, ℤ, pos, length, get_or, Option, Some, None, Result}
 use Rattle.common.specs.Choice.{when◌then◌else◌, ◌<?◌}
 use Rattle.common.specs.Answers.{Answer, gives, refused, on_given}
-use Rattle.common.specs.Refusals.{refused_by}
+use Rattle.common.specs.declared.refusal.Refusal.{Refusal}
+use Rattle.common.specs.Refusals.{answer_as}
+use Rattle.cell.specs.declared.value.ValueRef.{ValueRef}
 use Rattle.cell.specs.Kinds.{cell_as}
 use Rattle.table.specs.declared.layout.Table.{Table}
 use Rattle.table.specs.Layout.{types_of}
 use Rattle.table.specs.Rows.{cell_at, row_by_row}
 use Rattle.table.specs.Reading.{num_rows_answer}
-use Rattle.rows.specs.declared.NextCell.{NextCell}
-use Rattle.rows.specs.declared.NextCell.TheVariants.{Cell, End, Refused}
 use Rattle.rows.specs.declared.Step.{Step}
 
 pub data Next : Type 0 where
@@ -50,10 +50,13 @@ walk t s at (suc k) =
     let others = walk t s step.1 k in
     (step.0 ∷ others.0, others.1)
 
-abbrev pub next_as : NextCell → Answer Next
-next_as (Cell v) = gives (another (cell_as v))
-next_as End = gives none
-next_as (Refused x) = refused_by x
+-- a cell, or that there is none
+abbrev pub another_as : Option ValueRef → Next
+another_as (Some v) = another (cell_as v)
+another_as None = none
+
+abbrev pub next_as : Result (Option ValueRef) Refusal → Answer Next
+next_as cell = answer_as another_as cell
 
 abbrev pub step_as : Step → Answer Next × ℕ
 step_as x = (next_as x.cell, x.at)

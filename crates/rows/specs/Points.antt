@@ -4,12 +4,12 @@ use Rattle.common.specs.Answers.{gives, refused, nowhere, column}
 use Rattle.cell.specs.declared.form.ColumnType.TheVariants.{Str}
 use Rattle.column.specs.Columns.{building, finished}
 use Rattle.table.specs.declared.layout.Table.{Table}
-use Rattle.table.specs.Layout.{bitfields_outcome}
+use Rattle.table.specs.Layout.{bitfields_outcome, layout_or_none}
 use Rattle.rows.specs.Next.{another, none, next_outcome, beginning, walk}
 
 -- 01's table m: an Int16 and a Str 8 column, short references, and its bytes
 abbrev pub m : Table
-m = (bitfields_outcome (pos 0x502 ∷ pos 0xD08 ∷ []) false).1
+m = layout_or_none false (bitfields_outcome (pos 0x502 ∷ pos 0xD08 ∷ []) false)
 
 abbrev pub m_bytes : List ℕ
 m_bytes = 0x01 ∷ 0x80 ∷ 0xFF ∷ 0x7F ∷ 0x03 ∷ 0x00 ∷ 0x00 ∷ 0x00 ∷ []

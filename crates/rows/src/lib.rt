@@ -2,30 +2,18 @@
 #![tactic(auto)]
 
 ghost use Rattle.std.specs.Prelude.{◌≡◌};
-ghost use Rattle.common.specs.Refusals.{number_of, where_of};
 ghost use Rattle.rows.specs.Next.{step_as, next_outcome, beginning};
-ghost use Rattle.rows.specs.inner.Stopped.{stopped_at};
 
 use cell::ValueRef;
 use common::Refusal;
-use table::{CellRead, Counted, Table};
+use table::Table;
 
-#[derive(Clone, Copy)]
-pub enum NextCell {
-    Cell(ValueRef),
-    End,
-    Refused(Refusal),
-}
-
-// What a step answers, and the place after it.
+// What a step answers, a cell or that there is none, and the place after it.
 #[derive(Clone, Copy)]
 pub struct Step {
-    pub cell: NextCell,
+    pub cell: Result<Option<ValueRef>, Refusal>,
     pub at: usize,
 }
-
-// The refusal of a place outside the table: to the reader, past its last cell.
-const OUTSIDE: u32 = 15;
 
 // A step from the place `at`: a cell moves it by one, the end and a refusal leave it.
 pub fn next_at(stream: &[u8], at: usize, table: Table) -> Step
@@ -33,49 +21,23 @@ pub fn next_at(stream: &[u8], at: usize, table: Table) -> Step
 {
     let count = table.count;
     if count == 0 {
-        return without_columns(stream, at, table);
-    }
-    let read = table.read_cell(stream, at / count, at % count);
-    match read {
-        CellRead::Refused(refusal) => stopped(refusal, at),
-        CellRead::Value(value) => Step {
-            cell: NextCell::Cell(value),
-            at: at + 1,
-        },
-    }
-}
-
-// A table without columns has no cell. It and its stream are judged all the same.
-fn without_columns(stream: &[u8], at: usize, table: Table) -> Step
-    requires { table.count ≡ 0 }
-    ensures { step_as result ≡ next_outcome table stream.now at }
-{
-    let counted = table.num_rows(stream);
-    match counted {
-        Counted::Refused(refusal) => Step {
-            cell: NextCell::Refused(refusal),
-            at,
-        },
-        Counted::Count(_) => Step {
-            cell: NextCell::End,
-            at,
-        },
-    }
-}
-
-// A step that answers no cell.
-fn stopped(refusal: Refusal, at: usize) -> Step
-    ensures { step_as result ≡ stopped_at (number_of refusal) (where_of refusal) at }
-{
-    if refusal.number() == OUTSIDE {
+        // Such a table has no cell. It and its stream are judged all the same.
         return Step {
-            cell: NextCell::End,
+            cell: table.num_rows(stream).map(|_| None),
             at,
         };
     }
-    Step {
-        cell: NextCell::Refused(refusal),
-        at,
+    match table.read_cell(stream, at / count, at % count) {
+        Ok(value) => Step {
+            cell: Ok(Some(value)),
+            at: at + 1,
+        },
+        // A place outside the table is past its last cell.
+        Err(Refusal::OutsideTable) => Step { cell: Ok(None), at },
+        Err(refusal) => Step {
+            cell: Err(refusal),
+            at,
+        },
     }
 }
 
@@ -86,17 +48,19 @@ pub struct Rows<'a> {
     pub at: usize,
 }
 
-pub fn new<'a>(stream: &'a [u8]) -> Rows<'a>
-    ensures { (result.stream ≡ stream.entry) × (result.at ≡ beginning) }
-{
-    Rows { stream, at: 0 }
-}
+impl<'a> Rows<'a> {
+    pub fn new(stream: &'a [u8]) -> Rows<'a>
+        ensures { (result.stream ≡ stream.entry) × (result.at ≡ beginning) }
+    {
+        Rows { stream, at: 0 }
+    }
 
-// The next cell: it moves the reader by one, the end and a refusal leave it. The answer has the place that the reader then has.
-pub fn next<'s, 'a>(r: &'s mut Rows<'a>, table: Table) -> Step
-    ensures { (step_as result ≡ next_outcome table r.old.stream.now r.old.at) × (r.new.stream ≡ r.old.stream) × (r.new.at ≡ result.at) }
-{
-    let step = next_at(r.stream, r.at, table);
-    r.at = step.at;
-    step
+    // The next cell: it moves the reader by one, the end and a refusal leave it. The answer has the place that the reader then has.
+    pub fn next(&mut self, table: Table) -> Step
+        ensures { (step_as result ≡ next_outcome table self.old.stream.now self.old.at) × (self.new.stream ≡ self.old.stream) × (self.new.at ≡ result.at) }
+    {
+        let step = next_at(self.stream, self.at, table);
+        self.at = step.at;
+        step
+    }
 }

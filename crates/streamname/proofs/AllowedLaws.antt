@@ -1,9 +1,9 @@
 -- Laws of the units that a valid name may have.
-use Prim.Native.Nat.{ℕ, zero, suc, ◌+◌, ◌≤◌, ◌<◌}
+use Prim.Native.Nat.{ℕ, zero, suc, ◌+◌, ◌<◌}
 use mathlib.Core.Path.{◌≡◌}
 use mathlib.Core.Bool.{Bool, true, false, ◌&&◌}
 use mathlib.Core.List.{List, [], ◌∷◌}
-use mathlib.Core.Option.{Option, none, some}
+use Rattle.std.specs.Prelude.{Option, None, Some}
 use native.Mathlib.Omega.{arith}
 use native.Mathlib.Nat.{le_of_suc-le-suc, not-suc-le-zero}
 use native.Mathlib.Numerals.{add-one}
@@ -17,14 +17,11 @@ use Rattle.common.proofs.Bools.{clash, both_true, holds}
 use Rattle.streamname.specs.Letters.{letters, to_b64_lem}
 use Rattle.streamname.specs.Names.{allowed}
 use Rattle.streamname.specs.Promises.{Coded}
-use Rattle.streamname.proofs.LetterLaws.{inside, outside, letter_small}
+use Rattle.streamname.proofs.LetterLaws.{inside, letter_small}
 
 -- a coded unit is not allowed
 pub coded_not : (u : ℕ) → Coded u → allowed u ≡ false
 coded_not u h = simp (ne_eqb u 0x21 (omega arith), ne_eqb u 0x2F (omega arith), ne_eqb u 0x3A (omega arith), ne_eqb u 0x5C (omega arith), inside 0x3800 0x483F u h.0 h.1)
-
-pub other_allowed : (u : ℕ) → (u ≡ 0x21 → ⊥) → (u ≡ 0x2F → ⊥) → (u ≡ 0x3A → ⊥) → (u ≡ 0x5C → ⊥) → (0x3800 ≤ u → 0x483F < u) → allowed u ≡ true
-other_allowed u a b c d h = simp (ne_eqb u 0x21 a, ne_eqb u 0x2F b, ne_eqb u 0x3A c, ne_eqb u 0x5C d, outside 0x3800 0x483F u h)
 
 -- where every unit is allowed, none is coded
 pub every-clear : (name : List ℕ) → every allowed name ≡ true → (k : ℕ) → k < length name → ¬ Coded (get_or name k 0)
@@ -34,14 +31,14 @@ every-clear (u ∷ rest) e (suc k) h = every-clear rest (both_true (allowed u) (
 
 -- a letter is allowed: one test over all the units below 0x7B, past which there is none
 allowed_if : Option ℕ → ℕ → Bool
-allowed_if none u = true
-allowed_if (some a) u = allowed u
+allowed_if None u = true
+allowed_if (Some a) u = allowed u
 
 all-letters : T (all_below (λ u. allowed_if (to_b64_lem u) u) 0x7B)
 unfolding letters allowed_if
 all-letters = tt
 
-pub letter_allowed : (u a : ℕ) → to_b64_lem u ≡ some a → allowed u ≡ true
+pub letter_allowed : (u a : ℕ) → to_b64_lem u ≡ Some a → allowed u ≡ true
 unfolding allowed_if
 letter_allowed u a e = holds (allowed u) (rw e at (each (λ v. allowed_if (to_b64_lem v) v) 0x7B all-letters u (letter_small u a e)))
 

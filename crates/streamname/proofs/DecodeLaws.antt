@@ -1,6 +1,8 @@
 -- The laws of `decoded` that the loops go by.
 use Prim.Native.Nat.{ℕ, ◌+◌, ◌-◌, ◌*◌, ◌/◌, ◌%◌, ◌≤◌, ◌<◌}
-use mathlib.Core.Path.{◌≡◌}
+use mathlib.Core.Path.{◌≡◌, refl, ap}
+use Rattle.std.specs.List.{sum_by}
+use Rattle.std.proofs.lemmas.List.Sums.{sum_by-cons}
 use mathlib.Core.Bool.{Bool, true, false}
 use mathlib.Core.List.{List, [], ◌∷◌, ◌++◌}
 use native.Mathlib.Omega.{arith}
@@ -12,7 +14,6 @@ use Rattle.streamname.specs.Letters.{from_b64_lem}
 use Rattle.common.specs.Lists.{◌over◌}
 use Rattle.common.specs.Choice.{when◌then◌else◌}
 use Rattle.common.specs.Sizes.{max_name, max_stored}
-use Rattle.common.proofs.Bools.{clash}
 use Rattle.common.specs.Answers.{gives, refused, nowhere}
 use Rattle.streamname.specs.Names.{between, undone, decoded, is_table, decoded_name}
 use Rattle.streamname.specs.Calls.{decode_outcome}
@@ -34,6 +35,8 @@ module _ (v : ℕ) where
   unfolding undone
   undone-other h = simp (outside 0x3800 0x47FF v (λ p. omega (arith, h p)), outside 0x4800 0x483F v (λ p. h (omega arith)))
 
+pub ruleset undoing = (undone-two, undone-one, undone-other)
+
 -- what stands in front is undone, and the rest follows
 pub decoded-next : (stored : List ℕ) (i : ℕ) (u : Unpacked) → i < length stored → units_of u ≡ undone (get_or stored i 0)
     → decoded (drop i stored) ≡ units_of u ++ decoded (drop (i + 1) stored)
@@ -54,20 +57,21 @@ undone-short v = go (between 0x3800 0x47FF v) (between 0x4800 0x483F v)
     go false true = omega arith
     go false false = omega arith
 
-pub decoded-short : (stored : List ℕ) → length (decoded stored) ≤ length stored * 2
+pub decoded_short : (stored : List ℕ) → length (decoded stored) ≤ length stored * 2
 unfolding decoded
-decoded-short [] = omega arith
-decoded-short (v ∷ rest) = simp length-append (omega (arith, undone-short v, decoded-short rest))
+decoded_short [] = omega arith
+decoded_short (v ∷ rest) = simp length-append (omega (arith, undone-short v, decoded_short rest))
+
+-- the lengths of what its units stand for sum to its own
+pub decoded-length : (stored : List ℕ) → length (decoded stored) ≡ sum_by (λ v. length (undone v)) stored
+unfolding decoded
+decoded-length [] = refl
+decoded-length (v ∷ rest) = simp length-append (rw sum_by-cons (ap (λ n. length (undone v) + n) (decoded-length rest)))
 
 -- past the end nothing is left
 pub decoded-end : (stored : List ℕ) (i : ℕ) → length stored ≤ i → decoded (drop i stored) ≡ []
 unfolding decoded
 decoded-end stored i h = rw (drop_of_length-le stored h)
-
--- the prefix is a unit of the stored name
-pub prefix_within : (stored : List ℕ) → is_table stored ≡ true → 1 ≤ length stored
-prefix_within [] e = clash (cc)
-prefix_within (v ∷ rest) e = omega arith
 
 -- `decode` refused, and past its refusals
 module _ (stored out : List ℕ) where

@@ -1,18 +1,17 @@
--- Laws of the 64 letters: the code's table has the list's places, its ranges give each number's letter, and a letter's number gives
--- it back. Each is one computed test: over the 128 units of the table, over those below 0x7B, past which there is no letter, or over
--- all 64 numbers.
-use Prim.Native.Nat.{ℕ, ◌+◌, ◌-◌, ◌≤◌, ◌<◌}
+-- Laws of the 64 letters: the code's table has the list's places, and a letter's number gives it back. Each is one computed test: over
+-- the units below 0x7B, past which there is no letter, or over all 64 numbers.
+use Prim.Native.Nat.{ℕ, ◌≤◌, ◌<◌}
 use mathlib.Core.Path.{◌≡◌, refl, sym, ap, ◌∙◌}
 use mathlib.Core.Bool.{Bool, true, false, ◌&&◌}
 use mathlib.Core.List.{List, [], ◌∷◌}
-use mathlib.Core.Option.{Option, none, some}
+use Rattle.std.specs.Prelude.{Option, None, Some}
 use native.Mathlib.Omega.{arith}
 use native.Mathlib.Nat.{zero-add}
 use native.Mathlib.Decide.{dec_lt}
 use lib.Dec.{T, leb, ltb, eqb, ltb→lt, eqb→eq}
 use lib.ListN.{length, get_or, get_or-eq_default}
 use borrow.Author.Tests.{le-leb, lt-leb, ne_eqb, leb-true}
-use Rattle.common.specs.Choice.{when◌then◌else◌, ◌<?◌, ◌=?◌}
+use Rattle.common.specs.Choice.{◌<?◌}
 use Rattle.common.proofs.Below.{both, all_below, each}
 use Rattle.common.proofs.Lists.{map-from}
 use Rattle.streamname.specs.Letters.{letters, place_in, to_b64_lem, from_b64_lem}
@@ -39,7 +38,7 @@ abbrev all_under_lem : ℕ → List ℕ → Bool
 all_under_lem b [] = true
 all_under_lem b (x ∷ xs) = ltb x b && all_under_lem b xs
 
-absent : (l : List ℕ) (b u : ℕ) → T (all_under_lem b l) → b ≤ u → place_in l u ≡ none
+absent : (l : List ℕ) (b u : ℕ) → T (all_under_lem b l) → b ≤ u → place_in l u ≡ None
 absent [] b u t h = refl
 absent (x ∷ xs) b u t h =
     let s = both (ltb x b) (all_under_lem b xs) t in
@@ -50,33 +49,19 @@ unfolding letters
 all_under = tt
 
 -- past the last letter there is none
-pub past : (u : ℕ) → 0x7A < u → none ≡ to_b64_lem u
+pub past : (u : ℕ) → 0x7A < u → None ≡ to_b64_lem u
 past u h = sym (absent letters 0x7B u all_under h)
 
--- ---- the letter of a number, by the ranges that the code tests
-
-abbrev pub spelled : ℕ → ℕ
-spelled n =
-    when 35 <? n then (when n <? 62 then n - 36 + 0x61 else when n =? 62 then 0x2E else 0x5F)
-    else when n <? 10 then n + 0x30
-    else n - 10 + 0x41
-
-abbrev spelled_right : ℕ → Bool
-spelled_right n = from_b64_lem n =? spelled n && from_b64_lem n <? 0x7B
-
-all-spelled : T (all_below spelled_right 64)
+-- nor is the unit 0, which is read past the end of a name
+pub past_end : (name : List ℕ) (at : ℕ) → length name ≤ at → None ≡ to_b64_lem (get_or name at 0)
 unfolding letters
-all-spelled = tt
+past_end name at h = rw (get_or-eq_default name 0 h)
 
-module _ (n : ℕ) (h : n < 64) where
-  right : T (from_b64_lem n =? spelled n) × T (from_b64_lem n <? 0x7B)
-  right = both (from_b64_lem n =? spelled n) (from_b64_lem n <? 0x7B) (each spelled_right 64 all-spelled n h)
+-- ---- the letter of a number
 
-  pub spelled_is : from_b64_lem n ≡ spelled n
-  spelled_is = eqb→eq (from_b64_lem n) (spelled n) right.0
-
-  small : from_b64_lem n < 0x7B
-  small = ltb→lt (from_b64_lem n) 0x7B right.1
+all-small : T (all_below (λ n. from_b64_lem n <? 0x7B) 64)
+unfolding letters
+all-small = tt
 
 how_many : length letters ≡ 64
 unfolding letters
@@ -87,7 +72,7 @@ pub from-small : (n : ℕ) → from_b64_lem n < 0x7B
 from-small n = go (dec_lt n 64)
   where
     go : Dec (n < 64) → from_b64_lem n < 0x7B
-    go (yes h) = small n h
+    go (yes h) = ltb→lt (from_b64_lem n) 0x7B (each (λ m. from_b64_lem m <? 0x7B) 64 all-small n h)
     go (no h) =
         let past : length letters ≤ n = omega (arith, how_many) in
         rw (get_or-eq_default letters 0 past) (omega arith)
@@ -95,8 +80,8 @@ from-small n = go (dec_lt n 64)
 -- ---- a letter's number is below 64, and gives the letter back
 
 abbrev gives_back : ℕ → Option ℕ → Bool
-gives_back u none = true
-gives_back u (some a) = ltb a 64 && eqb (from_b64_lem a) u
+gives_back u None = true
+gives_back u (Some a) = ltb a 64 && eqb (from_b64_lem a) u
 
 abbrev back_right : ℕ → Bool
 back_right u = gives_back u (to_b64_lem u)
@@ -105,7 +90,7 @@ all_back : T (all_below back_right 0x7B)
 unfolding letters
 all_back = tt
 
-module _ (u a : ℕ) (e : to_b64_lem u ≡ some a) where
+module _ (u a : ℕ) (e : to_b64_lem u ≡ Some a) where
   back : T (back_right u)
   back = go (dec_lt u 0x7B)
     where
@@ -128,16 +113,18 @@ module _ (u a : ℕ) (e : to_b64_lem u ≡ some a) where
 -- ---- a number of the table says which letter its unit is, or that it is none
 
 module _ (u n : ℕ) (e : n ≡ or_sixty_four (to_b64_lem u)) where
-  pub is-letter : n < 64 → some n ≡ to_b64_lem u
+  pub is-letter : n < 64 → Some n ≡ to_b64_lem u
   is-letter h = go (to_b64_lem u) refl
     where
-      go : (x : Option ℕ) → to_b64_lem u ≡ x → some n ≡ x
-      go none p = absurd (let q : n ≡ 64 = rw p at e in omega arith)
-      go (some a) p = ap some (rw p at e)
+      go : (x : Option ℕ) → to_b64_lem u ≡ x → Some n ≡ x
+      go None p = absurd (let q : n ≡ 64 = rw p at e in omega arith)
+      go (Some a) p = ap Some (rw p at e)
 
-  pub is-other : 64 ≤ n → none ≡ to_b64_lem u
+  pub is-other : 64 ≤ n → None ≡ to_b64_lem u
   is-other h = go (to_b64_lem u) refl
     where
-      go : (x : Option ℕ) → to_b64_lem u ≡ x → none ≡ x
-      go none p = refl
-      go (some a) p = absurd (let q : n ≡ a = rw p at e in omega (arith, letter_below u a p))
+      go : (x : Option ℕ) → to_b64_lem u ≡ x → None ≡ x
+      go None p = refl
+      go (Some a) p = absurd (let q : n ≡ a = rw p at e in omega (arith, letter_below u a p))
+
+pub ruleset looked = (looked_up, past, is-letter, is-other)

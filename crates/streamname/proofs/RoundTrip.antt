@@ -3,7 +3,7 @@ use Prim.Native.Nat.{ℕ, zero, suc, ◌+◌, ◌*◌, ◌-◌, ◌/◌, ◌%◌
 use mathlib.Core.Path.{◌≡◌, refl, sym, ◌∙◌}
 use mathlib.Core.Bool.{true, false, true≢false}
 use mathlib.Core.List.{List, [], ◌∷◌, ◌++◌}
-use mathlib.Core.Option.{Option, none, some}
+use Rattle.std.specs.Prelude.{Option, None, Some}
 use native.Mathlib.Nat.{le_of_suc-le-suc, not-suc-le-zero}
 use native.Mathlib.Decide.{dec_le}
 use native.Mathlib.Omega.{arith}
@@ -19,33 +19,33 @@ use Rattle.streamname.proofs.DecodeLaws.{undone-two, undone-one, undone-other}
 -- a name taken apart as `encoded` takes it: a unit that passes, a lone letter, or a pair of letters, and the rest
 data Greedy : List ℕ → Type 0 where
   end : Greedy []
-  other : {u : ℕ} {rest : List ℕ} → to_b64_lem u ≡ none → Greedy rest → Greedy (u ∷ rest)
-  single : {u a : ℕ} {rest : List ℕ} → to_b64_lem u ≡ some a → encoded (u ∷ rest) ≡ (0x4800 + a) ∷ encoded rest → Greedy rest → Greedy (u ∷ rest)
-  double : {u a v b : ℕ} {rest : List ℕ} → to_b64_lem u ≡ some a → to_b64_lem v ≡ some b → Greedy rest → Greedy (u ∷ v ∷ rest)
+  other : {u : ℕ} {rest : List ℕ} → to_b64_lem u ≡ None → Greedy rest → Greedy (u ∷ rest)
+  single : {u a : ℕ} {rest : List ℕ} → to_b64_lem u ≡ Some a → encoded (u ∷ rest) ≡ (0x4800 + a) ∷ encoded rest → Greedy rest → Greedy (u ∷ rest)
+  double : {u a v b : ℕ} {rest : List ℕ} → to_b64_lem u ≡ Some a → to_b64_lem v ≡ Some b → Greedy rest → Greedy (u ∷ v ∷ rest)
 
 greedy : (l : List ℕ) → Greedy l
 greedy [] = end
 greedy (u ∷ []) = go (to_b64_lem u) refl
   where
     go : (p : Option ℕ) → to_b64_lem u ≡ p → Greedy (u ∷ [])
-    go (some a) e = single e (lone-last u a e) end
-    go none e = other e end
+    go (Some a) e = single e (lone-last u a e) end
+    go None e = other e end
 greedy (u ∷ v ∷ r) = go (to_b64_lem u) (to_b64_lem v) refl refl (greedy r) (greedy (v ∷ r))
   where
     go : (p q : Option ℕ) → to_b64_lem u ≡ p → to_b64_lem v ≡ q → Greedy r → Greedy (v ∷ r) → Greedy (u ∷ v ∷ r)
-    go (some a) (some b) e f g h = double e f g
-    go (some a) none e f g h = single e (lone u a v r e f) h
-    go none (some b) e f g h = other e h
-    go none none e f g h = other e h
+    go (Some a) (Some b) e f g h = double e f g
+    go (Some a) None e f g h = single e (lone u a v r e f) h
+    go None (Some b) e f g h = other e h
+    go None None e f g h = other e h
 
 -- what became of each piece is undone
-undone-letter : (u a : ℕ) → to_b64_lem u ≡ some a → undone (0x4800 + a) ≡ u ∷ []
+undone-letter : (u a : ℕ) → to_b64_lem u ≡ Some a → undone (0x4800 + a) ≡ u ∷ []
 undone-letter u a e =
     let h = letter_below u a e in
     let low : 0x4800 + a - 0x4800 ≡ a = omega arith in
     sym (undone-one (0x4800 + a) (omega arith) (omega arith)) ∙ rw (low, letter_back u a e)
 
-undone-pair : (u a v b : ℕ) → to_b64_lem u ≡ some a → to_b64_lem v ≡ some b → undone (0x3800 + 64 * b + a) ≡ u ∷ v ∷ []
+undone-pair : (u a v b : ℕ) → to_b64_lem u ≡ Some a → to_b64_lem v ≡ Some b → undone (0x3800 + 64 * b + a) ≡ u ∷ v ∷ []
 undone-pair u a v b e f =
     let h = letter_below u a e in
     let k = letter_below v b f in
@@ -76,7 +76,7 @@ module _ (u : ℕ) (l : List ℕ) where
   unfolding Clear
   clear_tail t k p = t (suc k) (suc-le-suc p)
 
-clear_letter : (u a : ℕ) → to_b64_lem u ≡ some a → ¬ Coded u
+clear_letter : (u a : ℕ) → to_b64_lem u ≡ Some a → ¬ Coded u
 clear_letter u a e h = omega (arith, letter_small u a e)
 
 undone-clear : (u : ℕ) → ¬ Coded u → undone u ≡ u ∷ []
@@ -88,15 +88,15 @@ undone-clear u h = go (dec_le u 0x483F)
 
 -- there and back, a piece at a time
 module _ (u : ℕ) (rest : List ℕ) where
-  turn_other : to_b64_lem u ≡ none → decoded (encoded (u ∷ rest)) ≡ undone u ++ decoded (encoded rest)
+  turn_other : to_b64_lem u ≡ None → decoded (encoded (u ∷ rest)) ≡ undone u ++ decoded (encoded rest)
   unfolding decoded
   turn_other e = rw (passes u rest e)
 
-  turn_single : (a : ℕ) → to_b64_lem u ≡ some a → encoded (u ∷ rest) ≡ (0x4800 + a) ∷ encoded rest → decoded (encoded (u ∷ rest)) ≡ u ∷ decoded (encoded rest)
+  turn_single : (a : ℕ) → to_b64_lem u ≡ Some a → encoded (u ∷ rest) ≡ (0x4800 + a) ∷ encoded rest → decoded (encoded (u ∷ rest)) ≡ u ∷ decoded (encoded rest)
   unfolding decoded
   turn_single a e p = rw (p, undone-letter u a e)
 
-  turn_double : (a v b : ℕ) → to_b64_lem u ≡ some a → to_b64_lem v ≡ some b → decoded (encoded (u ∷ v ∷ rest)) ≡ u ∷ v ∷ decoded (encoded rest)
+  turn_double : (a v b : ℕ) → to_b64_lem u ≡ Some a → to_b64_lem v ≡ Some b → decoded (encoded (u ∷ v ∷ rest)) ≡ u ∷ v ∷ decoded (encoded rest)
   unfolding decoded
   turn_double a v b e f = rw (paired u a v b rest e f, undone-pair u a v b e f)
 

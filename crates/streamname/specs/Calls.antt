@@ -1,16 +1,12 @@
 -- What `encode`, `decode` and `is_valid` answer, and what their output holds afterwards.
-use Rattle.std.specs.Prelude.{ℕ, Bool, true, false, ◌||◌, List, length}
+use Rattle.std.specs.Prelude.{ℕ, Bool, ◌||◌, List, length, Result}
 use Rattle.common.specs.Choice.{when◌then◌else◌, ◌<?◌}
 use Rattle.common.specs.Sizes.{max_name, max_stored}
 use Rattle.common.specs.Answers.{Answer, gives, refused, nowhere, on_given, outcome, written_to}
-use Rattle.common.specs.Refusals.{refused_by}
+use Rattle.common.specs.Refusals.{answer_as}
+use Rattle.common.specs.declared.refusal.Refusal.{Refusal}
 use Rattle.streamname.specs.Names.{encoded_name, is_table, decoded_name, valid}
-use Rattle.streamname.specs.declared.Encoded.{Encoded}
-use Rattle.streamname.specs.declared.Encoded.TheVariants as encode
 use Rattle.streamname.specs.declared.Decoded.{Decoded}
-use Rattle.streamname.specs.declared.Decoded.TheVariants as decode
-use Rattle.streamname.specs.declared.Validity.{Validity}
-use Rattle.streamname.specs.declared.Validity.TheVariants as judge
 
 -- "22 first"; "Names and pool writing: 7"
 abbrev pub encode_answer : List ℕ → Bool → List ℕ → Answer (ℕ × List ℕ)
@@ -34,16 +30,6 @@ decode_outcome stored out = outcome out (decode_answer stored out)
 abbrev pub valid_answer : List ℕ → Bool → Answer Bool
 valid_answer name table = when max_name <? length name then refused 22 nowhere else gives (valid name table)
 
--- the calls' answers in document 01's terms
-abbrev pub encoded_as : Encoded → Answer ℕ
-encoded_as (encode.Units n) = gives n
-encoded_as (encode.Refused x) = refused_by x
-
-abbrev pub decoded_as : Decoded → Answer (ℕ × Bool)
-decoded_as (decode.Name n table) = gives (n, table)
-decoded_as (decode.Refused x) = refused_by x
-
-abbrev pub valid_as : Validity → Answer Bool
-valid_as judge.Valid = gives true
-valid_as judge.Invalid = gives false
-valid_as (judge.Refused x) = refused_by x
+-- the name's units and flag, in document 01's terms
+abbrev pub decoded_as : Result Decoded Refusal → Answer (ℕ × Bool)
+decoded_as decoded = answer_as (λ (d : Decoded). (d.units, d.is_table)) decoded

@@ -1,26 +1,25 @@
 -- Document 01, "Stream names, in UTF-16 units": the stored form of a name, and back.
-use Rattle.std.specs.Prelude.{ℕ, ◌+◌, ◌*◌, ◌-◌, ◌/◌, ◌%◌, Bool, not, ◌&&◌, ◌||◌, List, [], ◌∷◌, map, length, drop, get_or}
-use Rattle.std.proofs.Math.Option.{Option, none, some}
+use Rattle.std.specs.Prelude.{ℕ, ◌+◌, ◌*◌, ◌-◌, ◌/◌, ◌%◌, Bool, not, ◌&&◌, ◌||◌, List, [], ◌∷◌, map, length, drop, get_or, Option, Some, None}
 use Rattle.common.specs.Choice.{when◌then◌else◌, ◌≤?◌, ◌=?◌}
 use Rattle.common.specs.Lists.{joined, every}
 use Rattle.streamname.specs.Letters.{to_b64_lem, from_b64_lem}
 
 -- "Two such units a, b become 0x3800 + 64b + a"
 abbrev pub pair : Option ℕ → Option ℕ → Option ℕ
-pair (some a) (some b) = some (0x3800 + 64 * b + a)
-pair (some a) none = none
-pair none (some b) = none
-pair none none = none
+pair (Some a) (Some b) = Some (0x3800 + 64 * b + a)
+pair (Some a) None = None
+pair None (Some b) = None
+pair None None = None
 
 -- "a lone one 0x4800 + a; others pass"
 abbrev pub lone : Option ℕ → ℕ → ℕ
-lone (some a) u = 0x4800 + a
-lone none u = u
+lone (Some a) u = 0x4800 + a
+lone None u = u
 
 -- "taken greedily": a pair where there is one
 abbrev pub greedy : Option ℕ → List ℕ → List ℕ → List ℕ
-greedy (some unit) paired apart = unit ∷ paired
-greedy none paired apart = apart
+greedy (Some unit) paired apart = unit ∷ paired
+greedy None paired apart = apart
 
 unfoldable pub encoded : List ℕ → List ℕ
 encoded [] = []

@@ -16,6 +16,7 @@ pub(crate) enum Unpacked {
 }
 
 // Undoes a stored unit: two letters, one, or any other unit as it is.
+#[tactic(auto, using(crate::proofs::DecodeLaws::undoing))]
 pub(crate) fn unpack(unit: u16) -> Unpacked
     ensures { units_of result ≡ undone unit }
 {
@@ -42,23 +43,16 @@ pub(crate) fn width(u: Unpacked) -> usize
 pub(crate) fn decoded_len(stored: &[u16]) -> usize
     ensures { result ≡ length (decoded stored.now) }
 {
-    let mut units = 0;
-    let mut i = 0;
-    while i < stored.len() {
-        units += width(unpack(stored[i]));
-        i += 1;
-    }
-    units
+    stored.iter().map(|unit| width(unpack(*unit))).sum()
 }
 
 // How many units the undone name has, or more, but no unit is looked at where two places for each are there in any case, within the size of a name.
+#[tactic(auto, using(crate::proofs::DecodeLaws::decoded_short))]
 pub(crate) fn decoded_bound(stored: &[u16], places: usize) -> usize
     ensures { Bound (length (decoded stored.now)) places result × Bound (length (decoded stored.now)) max_name result }
 {
-    if stored.len() <= places / 2 {
-        if stored.len() <= MAX_NAME / 2 {
-            return stored.len() * 2;
-        }
+    if stored.len() <= places / 2 && stored.len() <= MAX_NAME / 2 {
+        return stored.len() * 2;
     }
     decoded_len(stored)
 }
@@ -87,10 +81,8 @@ pub(crate) fn write_decoded(stored: &[u16], out: &mut [u16]) -> usize
     ensures { Put (decoded stored.now) 0 out.old result out.new }
 {
     let mut at = 0;
-    let mut i = 0;
-    while i < stored.len() {
-        at = put_units(unpack(stored[i]), out, at);
-        i += 1;
+    for unit in stored {
+        at = put_units(unpack(*unit), out, at);
     }
     at
 }
@@ -99,11 +91,7 @@ pub(crate) fn write_decoded(stored: &[u16], out: &mut [u16]) -> usize
 pub(crate) fn is_table_name(stored: &[u16]) -> bool
     ensures { result ≡ is_table stored.now }
 {
-    if 0 < stored.len() {
-        stored[0] == TABLE_PREFIX
-    } else {
-        false
-    }
+    stored.first() == Some(&TABLE_PREFIX)
 }
 
 // A stored name without its table's prefix.

@@ -1,17 +1,13 @@
 // The 64 letters that are packed, and their numbers.
 ghost use Rattle.std.specs.Prelude.{◌≡◌, ◌<◌};
 ghost use Rattle.streamname.specs.Letters.{to_b64_lem, from_b64_lem};
-ghost use Rattle.streamname.specs.inner.Packing.{letter_of, letter_numbers};
+ghost use Rattle.streamname.specs.inner.Packing.{letter_numbers};
 
-// What a unit is to the packing: one of the 64 letters, by its number, or any other unit.
-#[derive(Clone, Copy)]
-pub(crate) enum Packing {
-    Letter(u16),
-    Other,
-}
+// The letters in the order of their numbers. Both tables are statics: a constant array is laid down anew in each call that names it.
+static LETTERS: [u8; 64] = *b"0123456789ABCDEFGHIJKLMNOPQRSTUVWXYZabcdefghijklmnopqrstuvwxyz._";
 
 // The number of each unit below 128: 0 to 63 for a letter (digits, A-Z, a-z, '.' and '_'), 64 for any other.
-const NUMBERS: [u8; 128] = [
+static NUMBERS: [u8; 128] = [
     // 00 to 2D
     64, 64, 64, 64, 64, 64, 64, 64, 64, 64, 64, 64, 64, 64, 64, 64, 64, 64, 64, 64, 64, 64, 64, 64,
     64, 64, 64, 64, 64, 64, 64, 64, 64, 64, 64, 64, 64, 64, 64, 64, 64, 64, 64, 64, 64, 64,
@@ -39,45 +35,30 @@ const NUMBERS: [u8; 128] = [
     64, 64, 64, 64, 64,
 ];
 
-// The table as a value, which the loops over a name lend to `to_b64`. The compiler stores a constant array anew in each call of the function that
-// names it: so once for a name, and not for each unit.
-pub(crate) fn numbers() -> [u8; 128]
-    ensures { result ≡ letter_numbers }
+#[tactic(auto, unfolding(crate::specs::Letters::letters, crate::specs::inner::Packing::letter_numbers))]
+fn numbers() -> &'static [u8; 128]
+    ensures { result.now ≡ letter_numbers }
 {
-    NUMBERS
+    &NUMBERS
 }
 
 // The number of a letter. A unit past the table is tested for before the look-up, and never cut to fit.
-pub(crate) fn to_b64(unit: u16, numbers: &[u8; 128]) -> Packing
-    requires { numbers.now ≡ letter_numbers }
-    ensures { letter_of result ≡ to_b64_lem unit }
+#[tactic(auto, using(crate::proofs::LetterLaws::looked))]
+pub(crate) fn to_b64(unit: u16) -> Option<u16>
+    ensures { result ≡ to_b64_lem unit }
 {
     if 127 < unit {
-        return Packing::Other;
+        return None;
     }
-    let number = numbers[unit as usize];
-    if number < 64 {
-        return Packing::Letter(number as u16);
-    }
-    Packing::Other
+    let number = u16::from(numbers()[unit as usize]);
+    if number < 64 { Some(number) } else { None }
 }
 
 // The letter of a number below 64.
+#[tactic(auto, unfolding(crate::specs::Letters::letters))]
 pub(crate) fn from_b64(six: u16) -> u16
     requires { six < 64 }
     ensures { result ≡ from_b64_lem six }
 {
-    if 35 < six {
-        if six < 62 {
-            return six - 36 + 0x61;
-        }
-        if six == 62 {
-            return 0x2E;
-        }
-        return 0x5F;
-    }
-    if six < 10 {
-        return six + 0x30;
-    }
-    six - 10 + 0x41
+    u16::from(LETTERS[six as usize])
 }

@@ -13,8 +13,7 @@ use borrow.Author.Tests.{leb-true, leb-false}
 use Rattle.common.specs.Lists.{total}
 use Rattle.text_room.specs.Texts.{splice}
 use Rattle.stringpool.specs.Pool.{Entry, Rooms, rooms, cut, entries_of, texts, put_back}
-use Rattle.stringpool.specs.inner.Entries.{Fit, first_entries, lengths_of, counts_of}
-use Rattle.stringpool.specs.inner.Drop.{none}
+use Rattle.stringpool.specs.inner.Entries.{Fit, first_entries, none, lengths_of, counts_of}
 use Rattle.stringpool.specs.declared.pool.StringPool.{StringPool}
 use Rattle.text_room.proofs.Splice.{front, length_front}
 use Rattle.common.proofs.Lists.{map-set, map_snoc}

@@ -1,8 +1,7 @@
 pub mod Drop
 pub mod Entries
+pub mod Judging
 pub mod Loads
 pub mod Points
-pub mod Showing
-pub mod Signed
 pub mod Streams
 pub mod Taking

@@ -11,8 +11,7 @@ use Rattle.common.specs.Refusals.{refused_by}
 use Rattle.common.specs.declared.refusal.Refusal.{Refusal}
 use Rattle.common.proofs.Outcomes.{refused-gives}
 use Rattle.pool_entries.proofs.Calls.{same_refusal}
-use Rattle.pool_stream.specs.Plan.{planned_as, entries_outcome}
-use Rattle.pool_stream.specs.declared.plan.LoadPlan.{LoadPlan}
+use Rattle.pool_stream.specs.Plan.{entries_outcome}
 use Rattle.pool_stream.proofs.Planning.{PlanOf, plan_of, loaded-plan}
 use Rattle.stringpool.specs.Pool.{Rooms, rooms, entry_room_lem}
 use Rattle.stringpool.specs.Load.{pool_from_lem, load_plan, load_entries, load_outcome}
@@ -32,10 +31,6 @@ module _ (s d : List ℕ) (w : Rooms) where
   abbrev Loaded : Answer (List ℕ × List ℕ) → Answer StringPool × Rooms
   Loaded a = outcome w (on_given a (λ x. gives (load_entries s d w x)))
 
-  -- the plan by another name
-  pub by_plan : {x y : LoadPlan} {o : Rooms} → x ≡ y → (planned_as x, o) ≡ entries_outcome s (length d) w → (planned_as y, o) ≡ entries_outcome s (length d) w
-  by_plan {x} {y} {o} f e = ap (λ (z : LoadPlan). (planned_as z, o)) (sym f) ∙ e
-
   pub load_refused : (x : Refusal) (left : Rooms) → (refused_by x, left) ≡ entries_outcome s (length d) w → (refused_by x, left) ≡ load_outcome s d w
   load_refused x left e = go Plan e
     where
@@ -51,12 +46,22 @@ module _ (s d : List ℕ) (w : Rooms) where
     pub stored : u ≤ length d
     stored = omega (arith, of.stored, of.sum)
 
+    -- the texts are copied
+    copied_texts : (a : Answer ℕ) (ts : List ℕ) → (a, ts) ≡ copy_outcome (take u d) left.text → ◌≡◌ {A = Answer ℕ × List ℕ} (a, ts) (gives u, take u d over w.text)
+    copied_texts a ts et =
+        let same : left.text ≡ w.text = ap (λ (o : Answer (ℕ × ℕ) × Rooms). o.1.text) (e ∙ ap Filled of.is) in
+        let long : length (take u d) ≡ u = length-take-le u d stored in
+        et ∙ ap (copy_outcome (take u d)) same ∙ copied (take u d) w.text (omega (arith, of.room, of.sum, of.within)) (omega (arith, of.room, of.sum))
+        ∙ ap (λ (i : ℕ). (gives i, take u d over w.text)) long
+
+    pub copy_given : (a : Answer ℕ) (ts : List ℕ) → (a, ts) ≡ copy_outcome (take u d) left.text → a ≡ gives u
+    copy_given a ts et = ap (λ (o : Answer ℕ × List ℕ). o.0) (copied_texts a ts et)
+
     -- the rooms after a load, by the stores
-    pub loaded : (p : StringPool) → p ≡ pool_from_lem s n → (a : Answer ℕ) (ts : List ℕ) → (a, ts) ≡ copy_outcome (take u d) w.text → (gives p, rooms left.lengths left.counts ts) ≡ load_outcome s d w
+    pub loaded : (p : StringPool) → p ≡ pool_from_lem s n → (a : Answer ℕ) (ts : List ℕ) → (a, ts) ≡ copy_outcome (take u d) left.text → (gives p, rooms left.lengths left.counts ts) ≡ load_outcome s d w
     loaded p ep a ts et =
         let f = e ∙ ap Filled of.is in
-        let long : length (take u d) ≡ u = length-take-le u d stored in
-        let copy : ts ≡ take u d over w.text = ap (λ (x : Answer ℕ × List ℕ). x.1) (et ∙ copied (take u d) w.text (omega (arith, of.room, of.sum, of.within)) (omega (arith, of.room, of.sum))) in
         ap₂ (λ (q : StringPool) (r : Rooms). (gives q, r)) (ep ∙ ap (pool_from_lem s) of.many)
-        (rooms-eq (ap (λ (o : Answer (ℕ × ℕ) × Rooms). o.1.lengths) f) (ap (λ (o : Answer (ℕ × ℕ) × Rooms). o.1.counts) f) (copy ∙ ap (λ (i : ℕ). take i d over w.text) of.sum))
+        (rooms-eq (ap (λ (o : Answer (ℕ × ℕ) × Rooms). o.1.lengths) f) (ap (λ (o : Answer (ℕ × ℕ) × Rooms). o.1.counts) f)
+        (ap (λ (o : Answer ℕ × List ℕ). o.1) (copied_texts a ts et) ∙ ap (λ (i : ℕ). take i d over w.text) of.sum))
         ∙ sym (ap Loaded of.is)

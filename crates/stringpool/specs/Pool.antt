@@ -1,14 +1,12 @@
 -- The state of a pool: its entries, cut out of the lent rooms and put back; and when it is sound.
 use Rattle.std.specs.Prelude.{ℕ, ◌-◌, Bool, List, ◌++◌, map, length, take, replicate}
 use Rattle.common.specs.Lists.{◌over◌, joined, total}
-use Rattle.common.specs.Answers.{Answer, gives}
-use Rattle.common.specs.Refusals.{refused_by}
+use Rattle.common.specs.Answers.{Answer}
 use Rattle.stringpool.specs.declared.pool.StringPool.{StringPool}
-use Rattle.stringpool.specs.declared.pool.Pooled.{Pooled}
-use Rattle.stringpool.specs.declared.pool.Pooled.TheVariants as pooled
 use Rattle.pool_entries.specs.Entries as entries
 use Rattle.pool_entries.specs.Sound as state
 pub use Rattle.pool_entries.specs.Entries.{Entry, entry, Rooms, rooms, cut, entry_room_lem, free, all}
+pub use Rattle.pool_entries.specs.Rooms.{rooms_of, rooms_held, SameRooms}
 
 -- "The state is the entry count, mark and code page with lent lengths, counts and text": its entries
 abbrev pub entries_of : StringPool → Rooms → List Entry
@@ -31,7 +29,3 @@ sound p w = state.sound_rooms p.num_strings p.codepage w
 -- "Order: 22 first, then 24."
 abbrev pub on_sound : {A : Type 0} → StringPool → Rooms → Answer A → Answer A
 on_sound p w a = state.on_sound_rooms p.num_strings p.codepage w a
-
-abbrev pub pooled_as : Pooled → Answer StringPool
-pooled_as (pooled.Is p) = gives p
-pooled_as (pooled.Refused x) = refused_by x

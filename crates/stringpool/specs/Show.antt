@@ -1,14 +1,9 @@
 -- What showing a reference answers, and its count.
 use Rattle.std.specs.Prelude.{ℕ, List, [], get_or, ℤ}
 use Rattle.common.specs.Answers.{Answer, gives, refused}
-use Rattle.common.specs.Refusals.{refused_by}
 use Rattle.stringpool.specs.Pool.{entry, Rooms, entries_of, on_sound}
 use Rattle.stringpool.specs.Refs.{on_reference}
 use Rattle.stringpool.specs.declared.pool.StringPool.{StringPool}
-use Rattle.stringpool.specs.declared.shows.Showable.{Showable}
-use Rattle.stringpool.specs.declared.shows.Counted.{Counted}
-use Rattle.stringpool.specs.declared.shows.Showable.TheVariants as showable
-use Rattle.stringpool.specs.declared.shows.Counted.TheVariants as counted
 
 -- "8, else the entry's bytes as a part of the lent text room; past the last entry, the empty part"
 abbrev pub show_answer : StringPool → Rooms → ℤ → Answer (List ℕ)
@@ -22,11 +17,3 @@ refcount_answer p w r = on_sound p w (on_reference r (λ k. gives (get_or (entri
 abbrev pub or_empty : Answer (List ℕ) → List ℕ
 or_empty (gives t) = t
 or_empty (refused n at) = []
-
-abbrev pub showable_as : Showable → Answer (Unit {0})
-showable_as showable.Yes = gives tt
-showable_as (showable.Refused x) = refused_by x
-
-abbrev pub refcount_as : Counted → Answer ℕ
-refcount_as (counted.Is n) = gives n
-refcount_as (counted.Refused x) = refused_by x

@@ -1,15 +1,15 @@
 -- What a take answers and what it leaves.
-use Rattle.std.specs.Prelude.{ℕ, ◌+◌, List, [], ◌∷◌, ◌++◌, length, get_or, set, ℤ}
+use Rattle.std.specs.Prelude.{ℕ, ◌+◌, List, [], ◌∷◌, ◌++◌, length, get_or, set, ℤ, Result}
 use Rattle.common.specs.Choice.{when◌then◌else◌, ◌<?◌, ◌≤?◌}
 use Rattle.common.specs.Answers.{Answer, gives, refused, nowhere, on_given, outcome}
 use Rattle.order.specs.Order.{add_fits_lem, text_fits}
-use Rattle.common.specs.Refusals.{refused_by}
+use Rattle.common.specs.Refusals.{answer_as}
+use Rattle.common.specs.declared.refusal.Refusal.{Refusal}
 pub use Rattle.pool_entries.specs.Choose.{same_bytes, equal, first_place, Chooser, first_free_or_equal, can_count_up_lem, equal_then_free_lem, Legal}
 use Rattle.stringpool.specs.Pool.{Entry, entry, Rooms, entries_of, texts, put_back, entry_room_lem, free, on_sound}
 use Rattle.stringpool.specs.Refs.{reference_to}
 use Rattle.stringpool.specs.declared.pool.StringPool.{StringPool}
 use Rattle.stringpool.specs.declared.takes.Taken.{Taken}
-use Rattle.stringpool.specs.declared.takes.Taken.TheVariants as taken
 use Rattle.common.specs.Sizes.{max_bytes}
 
 -- "An equal one counts up. A free one gets the text and count 1, and any old bytes go."
@@ -40,6 +40,8 @@ take_answer choose p w t = when max_bytes <? length t then refused 22 nowhere el
 abbrev pub take_outcome : Chooser → StringPool → Rooms → List ℕ → Answer (ℤ × StringPool) × Rooms
 take_outcome choose p w t = outcome w (take_answer choose p w t)
 
-abbrev pub taken_as : Taken → Answer (ℤ × StringPool)
-taken_as (taken.Ref r p) = gives (r.0, p)
-taken_as (taken.Refused x) = refused_by x
+abbrev pub taken_of : Taken → ℤ × StringPool
+taken_of t = (t.reference.0, t.pool)
+
+abbrev pub taken_as : Result Taken Refusal → Answer (ℤ × StringPool)
+taken_as taken = answer_as taken_of taken

@@ -1,7 +1,6 @@
 -- The pool stream and the data stream of a pool, and what writing one answers and leaves.
 use Rattle.std.specs.Prelude.{ℕ, List}
 use Rattle.common.specs.Answers.{Answer, outcome, written_to}
-pub use Rattle.little_endian.specs.Numbers.{written_as}
 pub use Rattle.pool_stream.specs.Entries.{short_of, wide, entry_bytes, mark_of, stream_bytes}
 use Rattle.stringpool.specs.Pool.{Rooms, entries_of, texts, on_sound}
 use Rattle.stringpool.specs.declared.pool.StringPool.{StringPool}

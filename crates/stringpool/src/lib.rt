@@ -11,8 +11,7 @@ mod shows;
 mod takes;
 mod writes;
 
-pub use crate::pool::{Pooled, StringPool};
-pub use crate::shows::{Counted, Showable};
+pub use crate::pool::StringPool;
 pub use crate::takes::Taken;
-pub use common::{Made, StringRef};
-pub use little_endian::Written;
+pub use common::StringRef;
+pub use pool_entries::{Rooms, RoomsMut};

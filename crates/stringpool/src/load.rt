@@ -1,33 +1,25 @@
 // Loading a pool stream and a data stream into the lent rooms.
 ghost use Rattle.std.specs.Prelude.{◌≡◌};
-ghost use Rattle.stringpool.specs.Pool.{rooms, pooled_as};
+ghost use Rattle.common.specs.Refusals.{answered};
+ghost use Rattle.stringpool.specs.Pool.{rooms_held, SameRooms};
 ghost use Rattle.stringpool.specs.Load.{pool_from_lem, load_outcome};
 
-use crate::pool::{Pooled, StringPool};
+use crate::pool::StringPool;
+use common::Refusal;
 use little_endian::read;
-use pool_stream::{LoadPlan, load_entries};
+use pool_entries::RoomsMut;
+use pool_stream::load_rooms;
 use text_room::copy_in;
 
 impl StringPool {
     // Loads a pool stream and a data stream into the lent rooms.
-    pub fn load(
-        pool: &[u8],
-        texts: &[u8],
-        lengths: &mut [u32],
-        counts: &mut [u16],
-        text: &mut [u8],
-    ) -> Pooled
-        ensures { (pooled_as result, rooms lengths.new counts.new text.new)
-            ≡ load_outcome pool.now texts.now (rooms lengths.old counts.old text.old) }
+    pub fn load(pool: &[u8], texts: &[u8], rooms: &mut RoomsMut<'_>) -> Result<StringPool, Refusal>
+        ensures same { SameRooms rooms.old rooms.new }
+        ensures outcome { (answered result, rooms_held rooms.new) ≡ load_outcome pool.now texts.now (rooms_held rooms.old) }
     {
-        let plan = load_entries(pool, texts.len(), lengths, counts, text);
-        match plan {
-            LoadPlan::Refused(why) => Pooled::Refused(why),
-            LoadPlan::Of(n, used) => {
-                copy_in(&texts[..used], text);
-                Pooled::Is(pool_from(pool, n))
-            }
-        }
+        let plan = load_rooms(pool, texts.len(), rooms)?;
+        copy_in(&texts[..plan.used], rooms.text).unwrap();
+        Ok(pool_from(pool, plan.entries))
     }
 }
 

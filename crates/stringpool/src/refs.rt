@@ -4,27 +4,21 @@ ghost use Rattle.common.specs.Answers.{gives};
 ghost use Rattle.stringpool.specs.Refs.{on_reference};
 ghost use Rattle.stringpool.specs.inner.Refs.{placed_as, ref_of};
 
-use common::{Made, Refusal, StringRef};
+use common::{Refusal, StringRef};
 
 // Where an entry stands in the lent lengths and counts.
 #[derive(Clone, Copy)]
 pub(crate) struct EntryPlace(pub usize);
 
-#[derive(Clone, Copy)]
-pub(crate) enum Placed {
-    At(EntryPlace),
-    Refused(Refusal),
-}
+// The entry place of a reference number.
+impl TryFrom<i32> for EntryPlace {
+    type Error = Refusal;
 
-// The entry place of a number from MIN to MAX.
-pub(crate) fn place(r: StringRef) -> Placed
-    ensures { placed_as result ≡ on_reference r.0 gives }
-{
-    let number = r.0;
-    let made = StringRef::new(number);
-    match made {
-        Made::Refused(why) => Placed::Refused(why),
-        Made::Ref(_) => Placed::At(EntryPlace(number as usize - 1)),
+    ghost try_from_gives = { λ number placed. placed_as placed ≡ on_reference number gives };
+
+    fn try_from(number: i32) -> Result<EntryPlace, Refusal> {
+        let reference = StringRef::new(number)?;
+        Ok(EntryPlace(reference.0 as usize - 1))
     }
 }
 
@@ -34,7 +28,6 @@ impl EntryPlace {
         requires { self.0 < 16777215 }
         ensures { result ≡ ref_of self }
     {
-        let place = self.0;
-        StringRef((place + 1) as i32)
+        StringRef((self.0 + 1) as i32)
     }
 }

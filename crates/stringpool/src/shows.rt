@@ -1,85 +1,56 @@
 // Show: the text of a reference as a part of the lent text room, and its count.
 ghost use Rattle.std.specs.Prelude.{◌≡◌};
-ghost use Rattle.common.specs.Answers.{nowhere, refusal_of};
-ghost use Rattle.stringpool.specs.Pool.{rooms};
-ghost use Rattle.common.specs.Refs.{reference};
-ghost use Rattle.stringpool.specs.Show.{show_answer, refcount_answer, or_empty, showable_as, refcount_as};
+ghost use Rattle.common.specs.Answers.{refusal_of};
+ghost use Rattle.common.specs.Refusals.{answered};
+ghost use Rattle.stringpool.specs.Pool.{rooms_of};
+ghost use Rattle.stringpool.specs.Show.{show_answer, refcount_answer, or_empty};
+ghost use Rattle.stringpool.specs.inner.Show.{shown_as};
 
 use crate::entry::{count_of, start_of};
 use crate::pool::StringPool;
-use crate::refs::{Placed, place};
-use common::{Made, Refusal, StringRef};
-use pool_entries::{State, judge};
-
-#[derive(Clone, Copy)]
-pub enum Counted {
-    Is(u16),
-    Refused(Refusal),
-}
-
-// Whether a show is refused.
-#[derive(Clone, Copy)]
-pub enum Showable {
-    Yes,
-    Refused(Refusal),
-}
+use crate::refs::EntryPlace;
+use common::{Refusal, StringRef};
+use pool_entries::{Rooms, judge};
 
 impl StringPool {
     // The text of a reference number; the empty part past the last entry, or where the call is refused.
-    pub fn get<'a>(self, lengths: &[u32], counts: &[u16], text: &'a [u8], number: i32) -> &'a [u8]
-        ensures { result.now ≡ or_empty (show_answer self (rooms lengths.now counts.now text.now) number) }
+    pub fn get<'a>(self, rooms: Rooms<'_, 'a>, number: i32) -> &'a [u8]
+        ensures { result.now ≡ or_empty (show_answer self (rooms_of rooms.entry) number) }
     {
-        let state = judge(self.num_strings, self.codepage, lengths, counts, text);
-        let State::Sound(_) = state else {
-            return &text[..0];
-        };
-        let placed = place(StringRef(number));
-        let Placed::At(place) = placed else {
-            return &text[..0];
-        };
-        let at = place.0;
-        if at >= self.num_strings {
-            return &text[..0];
-        }
-        let start = start_of(lengths, at);
-        let end = start + lengths[at] as usize;
-        &text[start..end]
+        show(self, rooms, number).unwrap_or(&rooms.text[..0])
     }
 
     // The refusal of showing a reference number, or none.
-    pub fn get_refusal(self, lengths: &[u32], counts: &[u16], text: &[u8], number: i32) -> Showable
-        ensures { showable_as result ≡ refusal_of (show_answer self (rooms lengths.now counts.now text.now) number) }
+    pub fn get_refusal(self, rooms: Rooms<'_, '_>, number: i32) -> Result<(), Refusal>
+        ensures { answered result ≡ refusal_of (show_answer self (rooms_of rooms.entry) number) }
     {
-        let state = judge(self.num_strings, self.codepage, lengths, counts, text);
-        match state {
-            State::Refused(why) => Showable::Refused(why),
-            State::Sound(_) => in_range(number),
-        }
+        judge(self.num_strings, self.codepage, rooms)?;
+        StringRef::new(number)?;
+        Ok(())
     }
 
+    #[tactic(auto, using(crate::proofs::Judging::judged))]
     // How many references count on a number, 0 past the end.
-    pub fn refcount(self, lengths: &[u32], counts: &[u16], text: &[u8], number: i32) -> Counted
-        ensures { refcount_as result ≡ refcount_answer self (rooms lengths.now counts.now text.now) number }
+    pub fn refcount(self, rooms: Rooms<'_, '_>, number: i32) -> Result<u16, Refusal>
+        ensures { answered result ≡ refcount_answer self (rooms_of rooms.entry) number }
     {
-        let state = judge(self.num_strings, self.codepage, lengths, counts, text);
-        if let State::Refused(why) = state {
-            return Counted::Refused(why);
-        }
-        let placed = place(StringRef(number));
-        match placed {
-            Placed::Refused(why) => Counted::Refused(why),
-            Placed::At(place) => Counted::Is(count_of(self.num_strings, counts, place.0)),
-        }
+        judge(self.num_strings, self.codepage, rooms)?;
+        let place = EntryPlace::try_from(number)?;
+        Ok(count_of(self.num_strings, rooms.counts, place.0))
     }
 }
 
-// Whether a reference number is in range.
-fn in_range(number: i32) -> Showable
-    ensures { showable_as result ≡ refusal_of (reference nowhere number) }
+// The text of a reference number, the empty part past the last entry.
+#[tactic(auto, using(crate::proofs::Judging::judged))]
+fn show<'a>(p: StringPool, rooms: Rooms<'_, 'a>, number: i32) -> Result<&'a [u8], Refusal>
+    ensures { shown_as result ≡ show_answer p (rooms_of rooms.entry) number }
 {
-    let made = StringRef::new(number);
-    match made {
-        Made::Refused(refusal) => Showable::Refused(refusal),
-        Made::Ref(_) => Showable::Yes,
+    judge(p.num_strings, p.codepage, rooms)?;
+    let at = EntryPlace::try_from(number)?.0;
+    if at >= p.num_strings {
+        return Ok(&rooms.text[..0]);
     }
+    let start = start_of(rooms.lengths, at);
+    let end = start + rooms.lengths[at] as usize;
+    Ok(&rooms.text[start..end])
 }

@@ -1,133 +1,109 @@
 // Take: one reference more on a text.
-ghost use Rattle.std.specs.Prelude.{◌≡◌, ℕ, ◌≤◌, ◌<◌, List};
-ghost use Rattle.common.specs.Answers.{outcome};
-ghost use Rattle.stringpool.specs.Pool.{Rooms, rooms, entry_room_lem};
-ghost use Rattle.stringpool.specs.Take.{taken_as, take_at, take_outcome, Chooser, Legal, first_free_or_equal, equal_then_free_lem};
+ghost use Rattle.std.specs.Prelude.{◌≡◌, ◌<◌};
+ghost use Rattle.stringpool.specs.Pool.{rooms_of, rooms_held, SameRooms};
+ghost use Rattle.stringpool.specs.Take.{taken_of, taken_as, take_outcome, Chooser, Legal, first_free_or_equal, equal_then_free_lem};
 ghost use Rattle.stringpool.specs.inner.Plan.{Planned};
-ghost use Rattle.stringpool.specs.inner.Take.{Known, FreeAt, Chosen, IsChosen, taken_by, holding_at, Numbered};
+ghost use Rattle.stringpool.specs.inner.Take.{Chosen, IsChosen, taken_by, holding_at, Numbered};
 
 use crate::entry::{Plan, carry_out};
 use crate::pool::StringPool;
 use crate::refs::EntryPlace;
 use common::{Refusal, StringRef};
-use order::{Fits, add_fits};
-use pool_entries::{Choice, choose, prefer};
+use order::add_fits;
+use pool_entries::{Rooms, RoomsMut, Spot, choose, prefer};
 use pool_stream::entry_room;
+use text_room::Part;
 
+// What a take hands out: the text's reference, and the pool after it.
 #[derive(Clone, Copy)]
-pub enum Taken {
-    Ref(StringRef, StringPool),
-    Refused(Refusal),
+pub struct Taken {
+    pub reference: StringRef,
+    pub pool: StringPool,
 }
 
 impl StringPool {
     // One reference more on the text new: its number, and the pool after.
     // The default: an equal entry that can count up, else the first free one, else a new one.
-    pub fn incref(
-        self,
-        lengths: &mut [u32],
-        counts: &mut [u16],
-        text: &mut [u8],
-        new: &[u8],
-    ) -> Taken
-        ensures { (taken_as result, rooms lengths.new counts.new text.new)
-            ≡ take_outcome equal_then_free_lem self (rooms lengths.old counts.old text.old) new.now }
+    pub fn incref(self, rooms: &mut RoomsMut<'_>, new: &[u8]) -> Result<Taken, Refusal>
+        ensures same { SameRooms rooms.old rooms.new }
+        ensures outcome { (taken_as result, rooms_held rooms.new) ≡ take_outcome equal_then_free_lem self (rooms_held rooms.old) new.now }
     {
-        let choice = prefer(self.num_strings, self.codepage, lengths, counts, text, new);
-        take_chosen(self, choice, lengths, counts, text, new)
+        let spot = prefer(self.num_strings, self.codepage, rooms.view(), new)?;
+        take_chosen(self, spot, rooms, new)
     }
 
     // Document 01's choice, the crate's: the first entry that is free or equal.
-    pub fn incref_first(
-        self,
-        lengths: &mut [u32],
-        counts: &mut [u16],
-        text: &mut [u8],
-        new: &[u8],
-    ) -> Taken
-        ensures { (taken_as result, rooms lengths.new counts.new text.new)
-            ≡ take_outcome first_free_or_equal self (rooms lengths.old counts.old text.old) new.now }
+    pub fn incref_first(self, rooms: &mut RoomsMut<'_>, new: &[u8]) -> Result<Taken, Refusal>
+        ensures same { SameRooms rooms.old rooms.new }
+        ensures outcome { (taken_as result, rooms_held rooms.new) ≡ take_outcome first_free_or_equal self (rooms_held rooms.old) new.now }
     {
-        let choice = choose(self.num_strings, self.codepage, lengths, counts, text, new);
-        take_chosen(self, choice, lengths, counts, text, new)
+        let spot = choose(self.num_strings, self.codepage, rooms.view(), new)?;
+        take_chosen(self, spot, rooms, new)
     }
 }
 
 // The take of the entry that a legal choice has.
 fn take_chosen(
     p: StringPool,
-    choice: Choice,
-    lengths: &mut [u32],
-    counts: &mut [u16],
-    text: &mut [u8],
+    spot: Spot,
+    rooms: &mut RoomsMut<'_>,
     new: &[u8],
-) -> Taken
-    requires { Chosen p (rooms lengths.old counts.old text.old) new.now choice }
-    ensures { (by : Chooser) → Legal by → IsChosen by p (rooms lengths.old counts.old text.old) new.now choice
-        → (taken_as result, rooms lengths.new counts.new text.new)
-        ≡ take_outcome by p (rooms lengths.old counts.old text.old) new.now }
+) -> Result<Taken, Refusal>
+    requires { Chosen p (rooms_held rooms.old) new.now spot }
+    ensures same { SameRooms rooms.old rooms.new }
+    ensures outcome { (by : Chooser) → Legal by → IsChosen by p (rooms_held rooms.old) new.now spot
+        → (taken_as result, rooms_held rooms.new) ≡ take_outcome by p (rooms_held rooms.old) new.now }
 {
-    let plan = plan_take(p, choice, lengths, counts, text, new);
-    carry_out(plan, lengths, counts, text, new);
-    take_answer(p, plan)
+    let plan = plan_take(p, spot, rooms.view(), new)?;
+    carry_out(plan, rooms, new);
+    Ok(take_answer(p, plan))
 }
 
-// What follows for the entry that a legal choice has; where the choice was refused, the take is.
-fn plan_take(
-    p: StringPool,
-    choice: Choice,
-    lengths: &[u32],
-    counts: &[u16],
-    text: &[u8],
-    new: &[u8],
-) -> Plan
-    requires { Chosen p (rooms lengths.now counts.now text.now) new.now choice }
-    ensures { (by : Chooser) → Legal by → IsChosen by p (rooms lengths.now counts.now text.now) new.now choice
-        → Planned (take_outcome by p (rooms lengths.now counts.now text.now) new.now)
-        (taken_by p result) result (rooms lengths.now counts.now text.now) new.now }
+// What follows for the entry that a legal choice has.
+fn plan_take(p: StringPool, spot: Spot, rooms: Rooms<'_, '_>, new: &[u8]) -> Result<Plan, Refusal>
+    requires { Chosen p (rooms_of rooms) new.now spot }
+    ensures { (by : Chooser) → Legal by → IsChosen by p (rooms_of rooms.entry) new.now spot
+        → Planned (take_outcome by p (rooms_of rooms.entry) new.now) (taken_by p) result (rooms_of rooms.entry) new.now }
 {
-    let n = p.num_strings;
-    match choice {
-        Choice::Refused(why) => Plan::Refused(why),
-        Choice::At(spot) => {
-            let at = spot.place;
-            if at >= n {
-                let entries = entry_room(lengths.len(), counts.len());
-                return put_added(p, entries, spot.used, text.len(), new.len());
-            }
-            let count = counts[at];
-            if count > 0 {
-                return Plan::Count(at, count + 1);
-            }
-            let old = lengths[at] as usize;
-            put_free(
-                p,
-                EntryPlace(at),
-                spot.start,
-                old,
-                spot.used,
-                text.len(),
-                new.len(),
-            )
-        }
+    let Spot {
+        place: at,
+        start,
+        used,
+    } = spot;
+    let room = rooms.text.len();
+    if at >= p.num_strings {
+        let entries = entry_room(rooms.lengths.len(), rooms.counts.len());
+        add_fits(p.long_string_refs, at, entries, used + new.len(), room)?;
+        let part = Part {
+            start,
+            old: 0,
+            used,
+        };
+        return Ok(Plan::Put { at, part, count: 1 });
     }
+    let count = rooms.counts[at];
+    if count > 0 {
+        return Ok(Plan::Count(at, count + 1));
+    }
+    let old = rooms.lengths[at] as usize;
+    if used - old + new.len() > room {
+        return Err(Refusal::TextRoom);
+    }
+    let part = Part { start, old, used };
+    Ok(Plan::Put { at, part, count: 1 })
 }
 
-// What a take of that plan answers: where an entry is added, the pool has grown.
+// What a take of that plan hands out: where an entry is added, the pool has grown.
 fn take_answer(p: StringPool, plan: Plan) -> Taken
     requires { Numbered plan }
-    ensures { taken_as result ≡ taken_by p plan }
+    ensures { taken_of result ≡ taken_by p plan }
 {
-    match plan {
-        Plan::Refused(why) => Taken::Refused(why),
-        Plan::Count(at, _) => Taken::Ref(EntryPlace(at).reference(), p),
-        Plan::Put {
-            at,
-            start: _,
-            old: _,
-            used: _,
-            count: _,
-        } => Taken::Ref(EntryPlace(at).reference(), holding(p, at)),
+    let at = match plan {
+        Plan::Count(at, _) | Plan::Put { at, .. } => at,
+    };
+    Taken {
+        reference: EntryPlace(at).reference(),
+        pool: holding(p, at),
     }
 }
 
@@ -141,53 +117,6 @@ fn holding(p: StringPool, at: usize) -> StringPool
     }
     StringPool {
         num_strings: at + 1,
-        long_string_refs: p.long_string_refs,
-        codepage: p.codepage,
-    }
-}
-
-// A free entry gets the text, where the texts then fit the room.
-fn put_free(
-    p: StringPool,
-    place: EntryPlace,
-    start: usize,
-    old: usize,
-    used: usize,
-    room: usize,
-    size: usize,
-) -> Plan
-    requires { (place.0 < 16777215) × (old ≤ used) × (used ≤ 268435455) × (size ≤ 268435455) }
-    ensures { (w : Rooms) (t : List ℕ) → Known p w t used room size → FreeAt p.num_strings w place.0 start old
-        → Planned (outcome w (take_at p w t place.0)) (taken_by p result) result w t }
-{
-    if used - old + size > room {
-        return Plan::Refused(Refusal::TextRoom);
-    }
-    Plan::Put {
-        at: place.0,
-        start,
-        old,
-        used,
-        count: 1,
-    }
-}
-
-// An entry is added, where the rooms hold it.
-fn put_added(p: StringPool, entries: usize, used: usize, room: usize, size: usize) -> Plan
-    requires { (used ≤ 268435455) × (size ≤ 268435455) }
-    ensures { (w : Rooms) (t : List ℕ) → Known p w t used room size → entries ≡ entry_room_lem w
-        → Planned (outcome w (take_at p w t p.num_strings)) (taken_by p result) result w t }
-{
-    let n = p.num_strings;
-    let fits = add_fits(p.long_string_refs, n, entries, used + size, room);
-    match fits {
-        Fits::Refused(why) => Plan::Refused(why),
-        Fits::Yes => Plan::Put {
-            at: n,
-            start: used,
-            old: 0,
-            used,
-            count: 1,
-        },
+        ..p
     }
 }

@@ -15,7 +15,7 @@ use Rattle.stringpool.specs.Take.{increased, taken_at_lem}
 use Rattle.stringpool.specs.Drop.{lessened}
 use Rattle.pool_entries.specs.inner.Sound.{small_b, all_small_lem}
 use Rattle.stringpool.specs.inner.Entries.{first_entries, lengths_of, counts_of}
-use Rattle.stringpool.specs.inner.Drop.{none}
+use Rattle.stringpool.specs.inner.Entries.{none}
 use Rattle.stringpool.specs.declared.pool.StringPool.{StringPool}
 use Rattle.stringpool.proofs.Entries.{both, lengths-cut, counts-cut}
 use Rattle.pool_entries.proofs.Sound.{then_second}

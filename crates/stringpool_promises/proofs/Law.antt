@@ -18,7 +18,7 @@ use Rattle.stringpool.specs.Drop.{lessened, drop_at_lem, drop_answer}
 use Rattle.stringpool.specs.Show.{or_empty}
 use Rattle.stringpool_promises.specs.Promises.{State, Call, take-of, drop_of, AllLegal, left, after, ran, SoundState, entries, shows, count_or0, count, accepted, same_number, answers, one, tally, sum_for, took, gave_up, took_ref, gave_up_ref, StaysCounted, CountsKept, StaysSound, Op, takes, takes_first, drops, as_call, CallsKept, KeptFromNew, KeptFromLoad, ChoosesLegally}
 use Rattle.pool_entries.proofs.Places.{first-free-or-equal, equal-then_free}
-use Rattle.stringpool.specs.inner.Drop.{none}
+use Rattle.stringpool.specs.inner.Entries.{none}
 use Rattle.stringpool.specs.declared.pool.StringPool.{StringPool}
 use Rattle.stringpool.proofs.Entries.{length-entries, length-texts_at, length_at}
 use Rattle.common.proofs.Sums.{total-in}

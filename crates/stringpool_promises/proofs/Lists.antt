@@ -10,7 +10,7 @@ use Rattle.common.specs.Lists.{◌over◌, total}
 use Rattle.stringpool.specs.Pool.{Entry, Rooms, cut, texts, put_back}
 use Rattle.stringpool.specs.inner.Entries.{first_entries, lengths_of, counts_of}
 use Rattle.stringpool.specs.declared.pool.StringPool.{StringPool}
-use Rattle.stringpool.specs.inner.Drop.{none}
+use Rattle.stringpool.specs.inner.Entries.{none}
 use Rattle.stringpool_promises.specs.Promises.{count_for, sum_for}
 
 -- entries put end to end are cut apart again

@@ -7,15 +7,16 @@ use mathlib.Core.List.{List}
 use lib.ListN.{length, get_or}
 use borrow.Author.Tests.{lt-ltb, le-ltb, eqb-false}
 use Rattle.common.specs.Choice.{when◌then◌else◌}
-use Rattle.common.specs.Answers.{refused, nowhere, outcome}
+use Rattle.common.specs.Answers.{gives, refused, nowhere, outcome}
 use Rattle.pool_entries.proofs.Places.{first-place, counts_up}
 use Rattle.stringpool.specs.Pool.{Entry, Rooms, free, on_sound}
-use Rattle.stringpool.specs.Take.{equal, first_place, can_count_up_lem, equal_then_free_lem, take_at}
-use Rattle.stringpool.specs.inner.Drop.{none}
+use Rattle.stringpool.specs.Refs.{reference_to}
+use Rattle.stringpool.specs.Take.{equal, first_place, can_count_up_lem, equal_then_free_lem, counting, take_at}
+use Rattle.stringpool.specs.inner.Entries.{none}
 use Rattle.stringpool.specs.declared.pool.StringPool.{StringPool}
 use Rattle.stringpool.proofs.Entries.{length-entries, count_at}
 use Rattle.stringpool.proofs.Taking.{equal-done}
-use Rattle.stringpool_promises.specs.Promises.{entries, EqualCountsUp}
+use Rattle.stringpool_promises.specs.Promises.{entries, counted_up, EqualCountsUp}
 use Rattle.stringpool_promises.proofs.Law.{on_sound-is}
 use Rattle.stringpool_promises.proofs.Sounds.{SoundFit, sound-fits}
 
@@ -33,4 +34,5 @@ equal-counts_up s t h small here =
     ap (λ (b : Bool). outcome w (when b then refused 22 nowhere else on_sound p w (take_at p w t (equal_then_free_lem t es)))) (le-ltb 268435455 (length t) small)
     ∙ ap (outcome w) (on_sound-is s h (take_at p w t (equal_then_free_lem t es)))
     ∙ ap (λ (b : Bool). outcome w (take_at p w t (when b then k else first_place free es))) (lt-ltb k (length es) here)
-    ∙ sym (equal-done p w fit.fit t k below fit.few up (get_or w.counts k 0 + 1) refl).is
+    ∙ sym (equal-done p w fit.fit t k below fit.few up (get_or w.counts k 0 + 1) refl).0
+    ∙ ap (λ (b : Bool). (gives (reference_to k, when b then p else counting p (k + 1)), counted_up w k)) (lt-ltb k p.num_strings below)

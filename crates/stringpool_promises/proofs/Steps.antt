@@ -13,7 +13,7 @@ use Rattle.stringpool.specs.Pool.{Entry, entry, free}
 use Rattle.stringpool.specs.Take.{same_bytes, equal, increased, taken_at_lem}
 use Rattle.stringpool.specs.Drop.{lessened}
 use Rattle.stringpool_promises.specs.Promises.{one, count_for, sum_for}
-use Rattle.stringpool.specs.inner.Drop.{none}
+use Rattle.stringpool.specs.inner.Entries.{none}
 use Rattle.stringpool_promises.proofs.Lists.{sum-set, sum-snoc}
 use Rattle.common.proofs.Lists.{get_or-put, get_or-snoc}
 use Rattle.pool_entries.proofs.Bytes.{same_eq}

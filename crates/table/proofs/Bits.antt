@@ -9,8 +9,8 @@ use lib.Dec.{eqb}
 use lib.IntN.{ℤ}
 use lib.ListN.{length, set}
 use Rattle.common.specs.Choice.{when◌then◌else◌}
-use Rattle.common.specs.Lists.{over_at, ◌over◌}
-use Rattle.common.specs.Answers.{Place, column, Answer, gives, refused, on_given, outcome}
+use Rattle.common.specs.Lists.{over_at}
+use Rattle.common.specs.Answers.{Place, column, Answer, gives, refused, on_given}
 use Rattle.cell.specs.declared.form.ColumnType.{ColumnType}
 use Rattle.cell.specs.declared.form.ColumnType.TheVariants.{Int16, Int32, Str, Binary}
 use Rattle.column.specs.declared.column.Column.{Column}
@@ -19,8 +19,6 @@ use Rattle.column.specs.Bits.{bits_of, has, without, size, type_from}
 use Rattle.column.specs.Columns.{bits_column}
 use Rattle.common.proofs.Parts.{over_set}
 use Rattle.widths.specs.Judged.{each_at}
-use Rattle.table.specs.declared.layout.Table.{Table}
-use Rattle.table.specs.Layout.{unused, no_table_lem}
 
 -- ---- the place of a column changes its refusal alone
 
@@ -67,21 +65,8 @@ module _ {A B : Type 0} (f : ℕ → A → Answer B) (x : A) (xs : List A) (c : 
   pub bits-stop : (n : ℕ) (at : Place) → f c x ≡ refused n at → refused n at ≡ on_given (each_at f c (x ∷ xs)) (λ ys. gives (over_at c ys l))
   bits-stop n at e = rw e
 
--- ---- the layout that they make
+-- ---- the layout that they make is refused as they are
 
-abbrev pub laid : Answer (List Column) → ℕ → Bool → Answer (Unit {0}) × Table
-laid a count long = outcome (no_table_lem long) (on_given a (λ xs. gives (tt, record { columns = xs over unused; count = count; long_string_refs = long })))
-
-pub laid_stop : (a : Answer (List Column)) (count : ℕ) (long : Bool) (n : ℕ) (at : Place) → refused n at ≡ on_given a (λ xs. gives (xs over unused)) → (refused n at, no_table_lem long) ≡ laid a count long
-laid_stop (gives xs) count long n at q = absurd (let z : ◌≡◌ {A = ℕ} 0 1 = cc in omega arith)
-laid_stop (refused m p) count long n at q =
-    let s : n ≡ m = cc in
-    let t : at ≡ p = cc in
-    rw (s, t)
-
-pub laid_done : (a : Answer (List Column)) (count : ℕ) (long : Bool) (l : List Column) → gives l ≡ on_given a (λ xs. gives (xs over unused))
-    → (gives tt, record { columns = l; count = count; long_string_refs = long }) ≡ laid a count long
-laid_done (gives xs) count long l q =
-    let s : l ≡ xs over unused = cc in
-    rw s
-laid_done (refused m p) count long l q = absurd (let z : ◌≡◌ {A = ℕ} 0 1 = cc in omega arith)
+pub laid_stop : {A B : Type 0} (a : Answer A) (f : A → List Column) (g : A → B) (n : ℕ) (at : Place) → refused n at ≡ on_given a (λ xs. gives (f xs)) → refused n at ≡ on_given a (λ xs. gives (g xs))
+laid_stop (gives xs) f g n at q = absurd (let z : ◌≡◌ {A = ℕ} 0 1 = cc in omega arith)
+laid_stop (refused m p) f g n at q = cc

@@ -107,9 +107,6 @@ apart c k r q step h p e =
     (lt_or_le r q)
 
 module _ {A : Type 0} (d : A) (g : ℕ → ℕ → A) (rows step : ℕ) where
-  pub filled_none : (l : List A) → length l ≡ rows * step → Filled d g rows step 0 l
-  filled_none l e = record { sized = e; right = λ r k p q. absurd (not-suc-le-zero q) }
-
   -- one column more, whose cells are those of g
   pub filled_turn : (c : ℕ) (f : ℕ → A) (l : List A) → c < step → ((r : ℕ) → f r ≡ g r c)
       → Filled d g rows step c l → Filled d g rows step (c + 1) (strided c step (map f (from 0 rows)) l)
@@ -169,9 +166,9 @@ module _ {A : Type 0} (g : ℕ → ℕ → A) (d : A) (columns rows : ℕ) where
   pub band_done : (before : List A) (first : ℕ) (out : List A) → rows ≤ first → Banded before first out → out ≡ row_by_row g rows columns over before
   band_done before first out h w = done_front w (rw (from-done first rows h))
 
-  pub band_turn : (before out last : List A) (first some k : ℕ) → first + some ≤ rows → k ≡ some * columns → last ≡ rows_from g columns first some
-      → Banded before first out → Banded before (first + some) (put_mid (first * columns) k out last)
-  band_turn before out last first some k h e f w =
+  pub band_turn : (before out last : List A) (first some after k : ℕ) → first + some ≤ rows → after ≡ first + some → k ≡ some * columns → last ≡ rows_from g columns first some
+      → Banded before first out → Banded before after (put_mid (first * columns) k out last)
+  band_turn before out last first some after k h a e f w =
       let x = rows_from g columns first some in
       let more = rows_from g columns (first + some) (rows - (first + some)) in
       let left : rows - first ≡ some + (rows - (first + some)) = omega arith in
@@ -179,7 +176,7 @@ module _ {A : Type 0} (g : ℕ → ℕ → A) (d : A) (columns rows : ℕ) where
       let long : length x ≡ some * columns = length-rows g d columns first some in
       let put : put_mid (first * columns) k out last ≡ over_at (first * columns) x out = filled_part x out last (first * columns) k f (omega arith) (omega (arith, rooms w x more next)) in
       let end : (first + some) * columns ≡ first * columns + length x = omega (arith, add-mul first some columns) in
-      rw (put, end) (steps_front w x more next)
+      rw (a, put, end) (steps_front w x more next)
 
 -- the cells of a band are among those of all
 pub band_within : (first some rows columns : ℕ) → first + some ≤ rows → first * columns + some * columns ≤ rows * columns

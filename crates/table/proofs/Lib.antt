@@ -1,6 +1,5 @@
 pub mod Plain
 pub mod Grid
-pub mod Judged
 pub mod Column
 pub mod Layouts
 pub mod Answers

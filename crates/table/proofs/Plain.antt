@@ -1,13 +1,13 @@
 -- Bytes that are given one after the other.
 use mathlib.Core.Path.{◌≡◌, refl, sym}
 use mathlib.Core.List.{List, [], ◌∷◌, ◌++◌, map}
-use Prim.Native.Nat.{ℕ, zero, suc, ◌+◌, ◌-◌, ◌*◌, ◌<◌, ◌≤◌}
+use Prim.Native.Nat.{ℕ, zero, suc, ◌+◌, ◌-◌, ◌*◌, ◌<◌}
 use native.Mathlib.Nat.{zero-mul, suc-mul}
 use native.Mathlib.Omega.{arith}
 use lib.ListN.{length, length-append}
 use Rattle.common.specs.Lists.{from}
 use Rattle.common.specs.Answers.{Answer, gives, refused, each, refusal_of}
-use Rattle.common.proofs.Lists.{from_next, from-done}
+use Rattle.common.proofs.Lists.{from_next}
 use Rattle.common.proofs.Answers.{fine-first}
 use Rattle.table.specs.inner.Columns.{given_bytes, plain}
 
@@ -25,9 +25,6 @@ all-given f (x ∷ xs) e =
 module _ (f : ℕ → Answer (List ℕ)) where
   pub plain_turn : (k n : ℕ) → k < n → plain f k (n - k) ≡ given_bytes (f k) ++ plain f (k + 1) (n - (k + 1))
   plain_turn k n h = rw (from_next k n h)
-
-  pub plain_end : (k n : ℕ) → n ≤ k → plain f k (n - k) ≡ []
-  plain_end k n h = rw (from-done k n h)
 
   -- each has w bytes
   pub plain-length : (w k n : ℕ) → ((x : ℕ) → refusal_of (f x) ≡ gives tt → length (given_bytes (f x)) ≡ w) → refusal_of (each f (from k n)) ≡ gives tt → length (plain f k n) ≡ n * w

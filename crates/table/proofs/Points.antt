@@ -3,13 +3,13 @@ use mathlib.Core.Path.{refl}
 use Rattle.table.specs.Points.{ReadBefore7, ColumnBounds, CountBeforeColumns, FirstBadColumn, SizeBeforeCount, ColumnsBeforeRows, RowBounds, RowsBeforePlaces, CellCounts, CountsBeforeCells, CellsBeforeRoom, ColumnByColumn, WriteRoom, ReadRoom, PlaceBounds, NoColumns, StrayBytes}
 
 pub column-bounds : ColumnBounds
-column-bounds = (λ l. refl, λ l. refl, λ l. refl, λ l. refl)
+column-bounds = (λ l. refl, λ l. (refl, refl), λ l. refl, λ l. (refl, refl))
 
 pub count-before_columns : CountBeforeColumns
-count-before_columns = (λ l. refl, λ l. refl)
+count-before_columns = (λ l. (refl, refl), λ l. (refl, refl))
 
 pub first_bad_column : FirstBadColumn
-first_bad_column = (λ l. refl, λ l. refl, λ l. refl)
+first_bad_column = (λ l. (refl, refl), λ l. (refl, refl), λ l. refl)
 
 pub size-before_count : SizeBeforeCount
 size-before_count = (λ s e. rw e, λ s e. rw e)

@@ -1,14 +1,14 @@
 -- Points: what the calls on a table answer at the bounds of document 01's rules and one past them, and which refusal comes first where an input
 -- has both faults, each computed from the definition.
 use Rattle.std.specs.Prelude.{◌≡◌, Bool, false, List, [], ◌∷◌, map, ℕ, ℤ, pos, negsuc, length, replicate}
-use Rattle.common.specs.Answers.{Answer, gives, refused, nowhere, column, cell}
+use Rattle.common.specs.Answers.{Place, Answer, gives, refused, nowhere, column, cell, refusal_of}
 use Rattle.common.specs.Lists.{◌over◌}
 use Rattle.cell.specs.declared.form.ColumnType.{ColumnType}
 use Rattle.cell.specs.declared.form.ColumnType.TheVariants.{Int16, Str}
 use Rattle.column.specs.Columns.{building, finished}
 use Rattle.widths.specs.Places.{cell_start}
 use Rattle.table.specs.declared.layout.Table.{Table}
-use Rattle.table.specs.Layout.{unused, no_table_lem, bitfields_outcome, columns_outcome, types_of}
+use Rattle.table.specs.Layout.{unused, no_table_lem, layout_or_none, bitfields_outcome, columns_outcome, types_of}
 use Rattle.table.specs.Reading.{num_rows_answer, read_cell_answer, read_rows_outcome}
 use Rattle.table.specs.Writing.{write_rows_outcome}
 
@@ -42,26 +42,30 @@ written t rows kinds numbers out = write_rows_outcome t rows (record { kinds = k
 
 -- ---- columns
 
+-- a layout that was refused, and the one of no columns that stands beside the refusal
+abbrev pub NoLayout : Answer Table → Bool → ℕ → Place → Type 0
+NoLayout answer long n at = (answer ≡ refused n at) × (layout_or_none long answer ≡ no_table_lem long)
+
 -- "20 over 64 columns": 64 are made, 65 are 20
 abbrev pub ColumnBounds : Type 0
 ColumnBounds =
-    ((long : Bool) → (bitfields_outcome (replicate 64 (pos 0x502)) long).0 ≡ gives tt)
-    × ((long : Bool) → bitfields_outcome (replicate 65 (pos 0x502)) long ≡ (refused 20 nowhere, no_table_lem long))
-    × ((long : Bool) → (columns_outcome unused 64 long).0 ≡ gives tt)
-    × ((long : Bool) → columns_outcome unused 65 long ≡ (refused 20 nowhere, no_table_lem long))
+    ((long : Bool) → refusal_of (bitfields_outcome (replicate 64 (pos 0x502)) long) ≡ gives tt)
+    × ((long : Bool) → NoLayout (bitfields_outcome (replicate 65 (pos 0x502)) long) long 20 nowhere)
+    × ((long : Bool) → refusal_of (columns_outcome unused 64 long) ≡ gives tt)
+    × ((long : Bool) → NoLayout (columns_outcome unused 65 long) long 20 nowhere)
 
 -- "Table: 20, 13 or 19 ..": 65 bad columns are 20
 abbrev pub CountBeforeColumns : Type 0
 CountBeforeColumns =
-    ((long : Bool) → bitfields_outcome (replicate 65 (pos 0x503)) long ≡ (refused 20 nowhere, no_table_lem long))
-    × ((long : Bool) → columns_outcome wide.columns 65 long ≡ (refused 20 nowhere, no_table_lem long))
+    ((long : Bool) → NoLayout (bitfields_outcome (replicate 65 (pos 0x503)) long) long 20 nowhere)
+    × ((long : Bool) → NoLayout (columns_outcome wide.columns 65 long) long 20 nowhere)
 
 -- "13 or 19 at the first bad column": of two bad ones the first, wherever it stands
 abbrev pub FirstBadColumn : Type 0
 FirstBadColumn =
-    ((long : Bool) → bitfields_outcome (pos 0x502 ∷ pos 0x503 ∷ pos 0x505 ∷ []) long ≡ (refused 13 (column 1), no_table_lem long))
-    × ((long : Bool) → columns_outcome bad.columns 3 long ≡ (refused 19 (column 1), no_table_lem long))
-    × ((long : Bool) → (columns_outcome bad.columns 1 long).0 ≡ gives tt)
+    ((long : Bool) → NoLayout (bitfields_outcome (pos 0x502 ∷ pos 0x503 ∷ pos 0x505 ∷ []) long) long 13 (column 1))
+    × ((long : Bool) → NoLayout (columns_outcome bad.columns 3 long) long 19 (column 1))
+    × ((long : Bool) → refusal_of (columns_outcome bad.columns 1 long) ≡ gives tt)
 
 -- ---- the order of a call
 

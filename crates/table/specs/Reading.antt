@@ -1,17 +1,15 @@
 -- Document 01, "Rows": cells read by their place and in bulk.
-use Rattle.std.specs.Prelude.{ℕ, ◌*◌, ◌||◌, List, ℤ, length}
+use Rattle.std.specs.Prelude.{ℕ, ◌*◌, ◌||◌, List, ℤ, length, Result}
 use Rattle.common.specs.Choice.{when◌then◌else◌, ◌<?◌}
 use Rattle.common.specs.Lists.{◌over◌}
 use Rattle.common.specs.Answers.{Answer, gives, refused, nowhere, on_given, outcome}
-use Rattle.common.specs.Refusals.{refused_by}
+use Rattle.common.specs.declared.refusal.Refusal.{Refusal}
+use Rattle.common.specs.Refusals.{answer_as}
 use Rattle.order.specs.Order.{cell_fits_lem}
+use Rattle.cell.specs.declared.value.ValueRef.{ValueRef}
 use Rattle.cell.specs.Kinds.{cell_as}
 use Rattle.widths.specs.Places.{rows_answer}
 use Rattle.table.specs.declared.layout.Table.{Table}
-use Rattle.table.specs.declared.layout.Counted.{Counted}
-use Rattle.table.specs.declared.layout.Counted.TheVariants.{Count, Refused}
-use Rattle.table.specs.declared.read.CellRead.{CellRead}
-use Rattle.table.specs.declared.read.CellRead.TheVariants.{Value, Refused as CellRefused}
 use Rattle.table.specs.Layout.{types_of}
 use Rattle.table.specs.Rows.{cell_at, row_by_row}
 
@@ -39,10 +37,5 @@ read_rows_answer t s kinds numbers = on_given (num_rows_answer t s) (cells_read 
 abbrev pub read_rows_outcome : Table → List ℕ → List ℕ → List ℤ → Answer ℕ × (List ℕ × List ℤ)
 read_rows_outcome t s kinds numbers = outcome (kinds, numbers) (read_rows_answer t s kinds numbers)
 
-abbrev pub counted_as : Counted → Answer ℕ
-counted_as (Count n) = gives n
-counted_as (Refused x) = refused_by x
-
-abbrev pub cell_read_as : CellRead → Answer (ℕ × ℤ)
-cell_read_as (Value v) = gives (cell_as v)
-cell_read_as (CellRefused x) = refused_by x
+abbrev pub cell_read_as : Result ValueRef Refusal → Answer (ℕ × ℤ)
+cell_read_as read = answer_as cell_as read

@@ -6,5 +6,4 @@ mod layout;
 mod read;
 mod write;
 
-pub use crate::layout::{Counted, Laid, Table, TableMade};
-pub use crate::read::CellRead;
+pub use crate::layout::Table;

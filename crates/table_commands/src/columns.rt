@@ -1,36 +1,29 @@
 // Commands on columns, and columns as words of the command language.
-ghost use Rattle.std.specs.Prelude.{◌≡◌, ◌+◌, ◌*◌, ◌≤◌, IfOk};
+ghost use Rattle.std.specs.Prelude.{◌≡◌, IfOk};
 
 use cell::Value;
-use column::{Bitfield, Column, ColumnBuilder, ColumnMade, ColumnType, Validity};
-use commands::lists::Cell;
-use commands::words::{ITEM, after, byte, bytes_in, end_of, front, next};
-use commands::{lists, numbers, shown};
+use column::{Column, ColumnBuilder, ColumnType};
+use commands::lists::cell_at;
+use commands::shown;
+use commands::values::value_of;
+use commands::words::{End, Words, front};
 use common::Refusal;
 use std::io;
 use std::io::Write;
 
 // 1 nullable, 2 localizable, 4 primary key, added up.
 fn marked(marks: u8) -> ColumnBuilder {
-    let mut being_made = Column::build();
-    if marks % 2 == 1 {
-        being_made = being_made.nullable();
+    ColumnBuilder {
+        is_localizable: marks & 2 != 0,
+        is_nullable: marks & 1 != 0,
+        is_primary_key: marks & 4 != 0,
+        value_range: None,
     }
-    if marks / 2 % 2 == 1 {
-        being_made = being_made.localizable();
-    }
-    if marks / 4 % 2 == 1 {
-        being_made = being_made.primary_key();
-    }
-    being_made
 }
 
 // Whether a type is handed over by a number that no type has: `xNUM`.
-pub(crate) fn is_unknown(s: &[u8], at: usize) -> bool {
-    if byte(s, at) == b'x' {
-        return numbers::count_at(s, after(s, at)) > 3;
-    }
-    false
+fn is_unknown(words: Words<'_>) -> bool {
+    words.byte() == b'x' && words.after().count() > 3
 }
 
 // A type by its number; one that there is not is a Str beyond its maximum, as C hands it over.
@@ -45,167 +38,99 @@ fn handed(number: u32, being_made: ColumnBuilder) -> Column {
 }
 
 // The column of bits, `@BITS`, or of a type: `i2`, `i4`, `sMAX`, `b`, `xNUM`.
-pub(crate) fn column_at(s: &[u8], at: usize, being_made: ColumnBuilder) -> ColumnMade {
-    let rest = after(s, at);
-    match byte(s, at) {
-        b'@' => being_made.with_bitfield(numbers::signed_at(s, rest)),
-        b's' => ColumnMade::Made(being_made.string(numbers::count_at(s, rest))),
-        b'b' => ColumnMade::Made(being_made.binary()),
-        b'x' => ColumnMade::Made(handed(numbers::count_at(s, rest), being_made)),
-        _ => {
-            if byte(s, rest) == b'2' {
-                return ColumnMade::Made(being_made.int16());
-            }
-            ColumnMade::Made(being_made.int32())
-        }
+pub(crate) fn column_at(words: Words<'_>, being_made: ColumnBuilder) -> Result<Column, Refusal> {
+    let rest = words.after();
+    match words.byte() {
+        b'@' => being_made.with_bitfield(rest.signed()),
+        b's' => Ok(being_made.string(rest.count())),
+        b'b' => Ok(being_made.binary()),
+        b'x' => Ok(handed(rest.count(), being_made)),
+        _ if rest.byte() == b'2' => Ok(being_made.int16()),
+        _ => Ok(being_made.int32()),
     }
 }
 
 fn type_out<W: Write>(w: &mut W, coltype: ColumnType) -> io::Result<()> {
     match coltype {
-        ColumnType::Int16 => shown::say(w, b"i2"),
-        ColumnType::Int32 => shown::say(w, b"i4"),
-        ColumnType::Str(max) => {
-            shown::say(w, b"s")?;
-            shown::number(w, max as usize)
-        }
-        ColumnType::Binary => shown::say(w, b"b"),
+        ColumnType::Int16 => write!(w, "i2"),
+        ColumnType::Int32 => write!(w, "i4"),
+        ColumnType::Str(max) => write!(w, "s{max}"),
+        ColumnType::Binary => write!(w, "b"),
     }
 }
 
-// A mark's worth, over twice the one below it.
-fn mark(on: bool, above: usize) -> usize
-    requires { above ≤ 3 }
-    ensures { result ≤ 2 * above + 1 }
-{
-    if on {
-        return 2 * above + 1;
-    }
-    2 * above
+// The column, its marks added up, and its written bits.
+fn described<W: Write>(w: &mut W, column: Column, bits: i32) -> io::Result<()> {
+    let nullable = u8::from(column.is_nullable);
+    let localizable = u8::from(column.is_localizable);
+    let key = u8::from(column.is_primary_key);
+    let marks = nullable + 2 * localizable + 4 * key;
+    shown::say(w, b"ok ")?;
+    type_out(w, column.coltype)?;
+    write!(w, " {marks} {bits}")
 }
 
-fn marks_out<W: Write>(w: &mut W, column: Column) -> io::Result<()> {
-    shown::say(w, b" ")?;
-    let key = mark(column.is_primary_key, 0);
-    let localizable = mark(column.is_localizable, key);
-    shown::number(w, mark(column.is_nullable, localizable))
-}
-
-// A refusal of a column: 16 in place of 19 where its type is unknown.
-pub(crate) fn refusal(why: Refusal, unknown: bool) -> u32 {
-    let number = why.number();
-    if unknown {
-        if number == 19 {
-            return 16;
-        }
+// The number of a refusal of the column here: 16 in place of 19 where its type is unknown.
+pub(crate) fn refusal(why: Refusal, words: Words<'_>) -> u32 {
+    match why.number() {
+        19 if is_unknown(words) => 16,
+        number => number,
     }
-    number
 }
 
 // A column by itself has no place in the command language.
-fn alone<W: Write>(w: &mut W, why: Refusal, unknown: bool) -> io::Result<()> {
-    shown::say(w, b"error ")?;
-    shown::number(w, refusal(why, unknown) as usize)
+fn alone<W: Write>(w: &mut W, why: Refusal, words: Words<'_>) -> io::Result<()>
+    ensures { IfOk result (λ u. u ≡ tt) }
+{
+    let number = refusal(why, words);
+    write!(w, "error {number}")
 }
 
-fn described<W: Write>(w: &mut W, column: Column, bits: i32) -> io::Result<()> {
-    shown::say(w, b"ok ")?;
-    let coltype = column.coltype;
-    type_out(w, coltype)?;
-    marks_out(w, column)?;
-    shown::say(w, b" ")?;
-    numbers::show(w, bits)
-}
-
-fn bits_out<W: Write>(w: &mut W, column: Column, unknown: bool) -> io::Result<()> {
-    let answer = column.bitfield();
-    match answer {
-        Bitfield::Bits(bits) => described(w, column, bits),
-        Bitfield::Refused(why) => alone(w, why, unknown),
-    }
+// The column of `SPEC MARKS`, and its bits.
+fn column_of(words: Words<'_>) -> Result<(Column, i32), Refusal> {
+    let column = column_at(words, marked(words.next().byte()))?;
+    Ok((column, column.bitfield()?))
 }
 
 // `col SPEC MARKS`
-pub fn made<W: Write>(w: &mut W, s: &[u8], at: usize) -> io::Result<()>
+pub fn made<W: Write>(w: &mut W, words: Words<'_>) -> io::Result<()>
     ensures { IfOk result (λ u. u ≡ tt) }
 {
-    let marks = byte(s, next(s, at));
-    let answer = column_at(s, at, marked(marks));
-    match answer {
-        ColumnMade::Made(column) => bits_out(w, column, is_unknown(s, at)),
-        ColumnMade::Refused(why) => alone(w, why, false),
+    match column_of(words) {
+        Ok((column, bits)) => described(w, column, bits),
+        Err(why) => alone(w, why, words),
     }
 }
 
 // A range, `MIN,MAX`, or `-` for none.
-fn ranged(s: &[u8], at: usize, being_made: ColumnBuilder) -> ColumnBuilder {
-    if lists::is_none(s, at) {
+fn ranged(words: Words<'_>, being_made: ColumnBuilder) -> ColumnBuilder {
+    if words.is_none() {
         return being_made;
     }
-    let second = after(s, end_of(s, at, ITEM));
-    being_made.range(numbers::signed_at(s, at), numbers::signed_at(s, second))
+    being_made.range(words.signed(), words.end(End::Item).after().signed())
 }
 
-fn value_of(cell: Cell) -> Value {
-    let number = cell.number;
-    let kind = cell.kind;
-    match kind {
-        0 => Value::Null,
-        1 => Value::Int(number),
-        2 => Value::Str,
-        _ => Value::Binary,
-    }
+// Whether the column of `SPEC MARKS RANGE VALUE` takes a value, the text of the last word beside it.
+fn validity(words: Words<'_>, value: Value) -> Result<bool, Refusal> {
+    let marks = words.next();
+    let range = marks.next();
+    let column = column_at(words, ranged(range, marked(marks.byte())))?;
+    let mut text = [0u8; 140_000];
+    let n = range.next().after().bytes_in(&mut text);
+    column.is_valid_value(value, front(&text, n))
 }
 
-// A kind that there is not is refused after the column.
-fn valid<W: Write>(w: &mut W, answer: Validity, known: bool, unknown: bool) -> io::Result<()> {
-    match answer {
-        Validity::Refused(why) => alone(w, why, unknown),
-        Validity::Valid => flag(w, true, known),
-        Validity::Invalid => flag(w, false, known),
-    }
-}
-
-fn flag<W: Write>(w: &mut W, on: bool, known: bool) -> io::Result<()> {
-    if known {
-        shown::say(w, b"ok ")?;
-        return shown::flag(w, on);
-    }
-    shown::say(w, b"error 16")
-}
-
-// An array that a call gives back is known by its size, and not place by place.
-fn text_room() -> [u8; 140000] {
-    [0u8; 140000]
-}
-
-fn check<W: Write>(
-    w: &mut W,
-    column: Column,
-    s: &[u8],
-    at: usize,
-    unknown: bool,
-) -> io::Result<()> {
-    let mut text = text_room();
-    let n = bytes_in(s, after(s, at), &mut text);
-    let cell = lists::cell_at(s, at);
-    valid(
-        w,
-        column.is_valid_value(value_of(cell), front(&text, n)),
-        cell.kind < 4,
-        unknown,
-    )
-}
-
-// `check SPEC MARKS RANGE VALUE`
-pub fn checked<W: Write>(w: &mut W, s: &[u8], at: usize) -> io::Result<()>
+// `check SPEC MARKS RANGE VALUE`. A kind that there is not is judged as Binary, and refused after the column.
+pub fn checked<W: Write>(w: &mut W, words: Words<'_>) -> io::Result<()>
     ensures { IfOk result (λ u. u ≡ tt) }
 {
-    let marks = next(s, at);
-    let range = next(s, marks);
-    let answer = column_at(s, at, ranged(s, range, marked(byte(s, marks))));
-    match answer {
-        ColumnMade::Made(column) => check(w, column, s, next(s, range), is_unknown(s, at)),
-        ColumnMade::Refused(why) => alone(w, why, false),
+    let value = value_of(cell_at(words.next().next().next()));
+    match validity(words, value.unwrap_or(Value::Binary)) {
+        Ok(valid) if value.is_some() => {
+            shown::say(w, b"ok ")?;
+            shown::flag(w, valid)
+        }
+        Ok(_) => shown::say(w, b"error 16"),
+        Err(why) => alone(w, why, words),
     }
 }

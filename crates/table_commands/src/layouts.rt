@@ -1,89 +1,56 @@
 // Layouts: LONG LAYOUT, the columns by their bits, or each as `:TYPE`.
 ghost use Rattle.std.specs.Prelude.{◌≡◌, IfOk};
 
-use crate::columns::{column_at, is_unknown, refusal};
-use column::{Column, ColumnMade};
-use commands::lists::signed_in;
-use commands::words::{WORD, after, byte, end_of, next};
-use commands::{lists, places, shown};
+use crate::columns::{column_at, refusal};
+use column::Column;
+use commands::lists::{Items, nth, signed_in};
+use commands::shown;
+use commands::words::{Words, front};
 use common::{Place, Refusal};
 use std::io;
 use std::io::Write;
-use table::{Laid, Table, TableMade};
-
-// The column of a type behind a colon.
-fn typed_at(s: &[u8], at: usize) -> Column {
-    let made = column_at(s, after(s, at), Column::build());
-    let ColumnMade::Made(column) = made else {
-        return Column::build().int16();
-    };
-    column
-}
+use table::Table;
 
 // A layout of types is handed over as it is, and the call on it judges it; past 64 columns it has 65.
-fn by_types(s: &[u8], at: usize, long_string_refs: bool) -> Table {
-    let mut columns = [Column::build().int16(); 64];
-    let end = end_of(s, at, WORD);
-    let mut item = lists::first(s, at);
+fn by_types(words: Words<'_>, long_string_refs: bool) -> Table {
+    let no_column = Column::build().int16();
+    let mut columns = [no_column; 64];
     let mut count = 0;
-    while count < 64 {
-        let place = item.at;
-        if place >= end {
-            return Table {
-                columns,
-                count,
-                long_string_refs,
-            };
+    for (i, item) in Items::of(words).take(65).enumerate() {
+        if i < 64 {
+            // The column of a type behind a colon.
+            columns[i] = column_at(item.after(), Column::build()).unwrap_or(no_column);
         }
-        columns[count] = typed_at(s, place);
-        item = lists::next(s, item);
-        count += 1;
+        count = i + 1;
     }
-    let place = item.at;
     Table {
         columns,
-        count: past(place, end),
+        count,
         long_string_refs,
     }
 }
 
-fn past(place: usize, end: usize) -> usize {
-    if place < end {
-        return 65;
-    }
-    64
-}
-
 // LONG LAYOUT: columns by their bits, or each as `:TYPE`.
-pub fn laid(s: &[u8], at: usize) -> TableMade {
-    let mut bits = [0i32; 128];
-    let columns = next(s, at);
-    let long = byte(s, at) == b'1';
-    if byte(s, columns) == b':' {
-        return TableMade {
-            answer: Laid::Made,
-            table: by_types(s, columns, long),
-        };
+pub fn laid(words: Words<'_>) -> Result<Table, Refusal> {
+    let long = words.byte() == b'1';
+    let columns = words.next();
+    if columns.byte() == b':' {
+        return Ok(by_types(columns, long));
     }
-    let n = signed_in(s, columns, &mut bits);
-    let m = places::numbers(&bits, n);
-    Table::from_bitfields(&bits[..m], long)
+    let mut bits = [0i32; 128];
+    let n = signed_in(columns, &mut bits);
+    Table::from_bitfields(front(&bits, n), long)
 }
 
 // A refusal of a call on the table of LONG LAYOUT.
-pub fn refused<W: Write>(w: &mut W, s: &[u8], at: usize, why: Refusal) -> io::Result<()>
+pub fn refused<W: Write>(w: &mut W, words: Words<'_>, why: Refusal) -> io::Result<()>
     ensures { IfOk result (λ u. u ≡ tt) }
 {
-    let place = why.place();
-    match place {
+    match why.place() {
         Place::Column(column) => {
-            let unknown = is_unknown(s, after(s, lists::nth(s, next(s, at), column)));
-            shown::say(w, b"error ")?;
-            shown::number(w, refusal(why, unknown) as usize)?;
-            shown::say(w, b" ")?;
-            shown::number(w, column)
+            let number = refusal(why, nth(words.next(), column).after());
+            write!(w, "error {number} {column}")
         }
-        Place::Nowhere => shown::refused(w, why),
-        Place::Cell { row: _, column: _ } => shown::refused(w, why),
+        _ => shown::refused(w, why),
     }
 }

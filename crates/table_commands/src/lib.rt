@@ -7,84 +7,71 @@ pub mod layouts;
 ghost use Rattle.std.specs.Prelude.{◌≡◌, length};
 
 use crate::layouts::{laid, refused};
+use commands::kept::FILL;
 use commands::lists::cells_in;
-use commands::words::{front, next, number_at, product};
+use commands::words::{Words, front, product};
 use commands::{kept, places, shown};
 use room_commands::Desk;
 use std::io;
 use std::io::Write;
-use table::{Counted, Laid, Table};
+use table::Table;
 
-// Rooms for the kinds and for the numbers of cells, as an output is before a call. An array that a call gives back is known by its
-// size, and not place by place.
-pub fn kinds_room() -> [u8; 65600]
-    ensures { length result ≡ 65600 }
-{
-    [0xEEu8; 65600]
+// Cells by their kinds and their numbers, as the calls on a table take them.
+#[derive(Clone, Copy)]
+pub struct Cells<'a> {
+    pub kinds: &'a [u8],
+    pub numbers: &'a [i32],
 }
 
-pub fn numbers_room() -> [i32; 65600]
-    ensures { length result ≡ 65600 }
-{
-    [-286331154i32; 65600]
-}
+// What a number of an output holds before a call: `kept::FILL` in each of its bytes.
+pub const FILL_NUMBER: i32 = -286_331_154;
 
 fn write_table<W: Write>(
     w: &mut W,
-    s: &[u8],
-    at: usize,
+    words: Words<'_>,
     table: Table,
-    kinds: &[u8],
-    values: &[i32],
+    cells: Cells<'_>,
     desk: Desk,
     out: &mut [u8],
 ) -> io::Result<Desk> {
-    let n = places::bytes(out, desk.output(product(kinds.len(), 4)));
+    let n = places::of(out, desk.output(product(cells.kinds.len(), 4)));
     kept::fill(&mut out[..n]);
-    let rows = number_at(s, next(s, next(s, at))) as usize;
-    let m = places::bytes(out, n);
-    let answer = table.write_rows(rows, kinds, values, &mut out[..m]);
-    match answer {
-        Counted::Count(bytes) => {
+    let rows = words.next().next().number() as usize;
+    let m = places::of(out, n);
+    match table.write_rows(rows, cells.kinds, cells.numbers, &mut out[..m]) {
+        Ok(bytes) => {
             shown::say(w, b"ok ")?;
             shown::bytes(w, front(out, bytes))?;
         }
-        Counted::Refused(why) => refused(w, s, at, why)?,
+        Err(why) => refused(w, words, why)?,
     }
     Ok(desk.leaves(n, 1))
 }
 
 fn write_cells<W: Write>(
     w: &mut W,
-    s: &[u8],
-    at: usize,
+    words: Words<'_>,
     table: Table,
     desk: Desk,
     out: &mut [u8],
 ) -> io::Result<Desk> {
-    let mut kinds = kinds_room();
-    let mut values = numbers_room();
-    let given = cells_in(s, next(s, next(s, next(s, at))), &mut kinds, &mut values);
-    let n = places::bytes(&kinds, given);
-    let m = places::numbers(&values, given);
-    write_table(w, s, at, table, &kinds[..n], &values[..m], desk, out)
+    let mut kinds = [FILL; 65_600];
+    let mut numbers = [FILL_NUMBER; 65_600];
+    let given = cells_in(words.next().next().next(), &mut kinds, &mut numbers);
+    let cells = Cells {
+        kinds: front(&kinds, given),
+        numbers: front(&numbers, given),
+    };
+    write_table(w, words, table, cells, desk, out)
 }
 
 // `write LONG LAYOUT ROWS CELLS`
-pub fn write<W: Write>(
-    w: &mut W,
-    s: &[u8],
-    at: usize,
-    desk: Desk,
-    out: &mut [u8],
-) -> io::Result<Desk>
+pub fn write<W: Write>(w: &mut W, words: Words<'_>, desk: Desk, out: &mut [u8]) -> io::Result<Desk>
     ensures { length out.new ≡ length out.old }
 {
-    let made = laid(s, at);
-    let answer = made.answer;
-    match answer {
-        Laid::Made => write_cells(w, s, at, made.table, desk, out),
-        Laid::Refused(why) => {
+    match laid(words) {
+        Ok(table) => write_cells(w, words, table, desk, out),
+        Err(why) => {
             shown::refused(w, why)?;
             Ok(desk)
         }

@@ -2,16 +2,16 @@
 use Rattle.std.specs.Prelude.{◌≡◌, false, List, [], ◌∷◌, ℕ, ℤ, pos, negsuc, replicate}
 use Rattle.common.specs.Answers.{Answer, Place, gives, refused, nowhere, cell}
 use Rattle.table.specs.declared.layout.Table.{Table}
-use Rattle.table.specs.Layout.{bitfields_outcome}
+use Rattle.table.specs.Layout.{bitfields_outcome, layout_or_none}
 use Rattle.table.specs.Reading.{read_rows_outcome}
 use Rattle.table.specs.Writing.{write_rows_outcome}
 
 -- two Int16 columns, and an Int16 and an Int32 column
 abbrev pub twice : Table
-twice = (bitfields_outcome (pos 0x502 ∷ pos 0x502 ∷ []) false).1
+twice = layout_or_none false (bitfields_outcome (pos 0x502 ∷ pos 0x502 ∷ []) false)
 
 abbrev pub both : Table
-both = (bitfields_outcome (pos 0x502 ∷ pos 0x104 ∷ []) false).1
+both = layout_or_none false (bitfields_outcome (pos 0x502 ∷ pos 0x104 ∷ []) false)
 
 -- whatever the output, these cells of two rows are refused so, and it stays as it was
 abbrev pub Refused : Table → List ℕ → List ℤ → ℕ → Place → Type 0
@@ -42,7 +42,7 @@ SmallestBefore7 =
 -- three rows of an Int16 and a nullable Binary column, read and written again
 abbrev pub rewritten : List ℕ → Answer ℕ × List ℕ
 rewritten s =
-    let t : Table = (bitfields_outcome (pos 0x502 ∷ pos 0x1900 ∷ []) false).1 in
+    let t : Table = layout_or_none false (bitfields_outcome (pos 0x502 ∷ pos 0x1900 ∷ []) false) in
     let read = (read_rows_outcome t s (replicate 6 0) (replicate 6 (pos 0))).1 in
     write_rows_outcome t 3 (record { kinds = read.0; numbers = read.1 }) (replicate 12 0xEE)
 

@@ -3,4 +3,4 @@
 
 mod text;
 
-pub use crate::text::{copy_in, replace};
+pub use crate::text::{Part, copy_in, replace};

@@ -1,181 +1,139 @@
 // Commands on values: what the pool has for a text, and what it shows of a reference.
 #![tactic(auto)]
 
+ghost use Rattle.std.specs.Prelude.{◌≡◌, IfOk};
+ghost use Rattle.stringpool.specs.Pool.{SameRooms};
+
 use cell::{Value, ValueRef};
-use commands::lists::{Cell, cell_at};
-use commands::words::{after, front};
+use commands::lists::cell_at;
+use commands::values::{reference_of, value_of};
+use commands::words::{Words, front};
 use commands::{kept, numbers, places, shown};
-use common::{Refusal, StringRef};
-use pool_commands::{bytes_at, pooled};
-use pool_values::{Created, Shown};
+use common::Refusal;
+use pool_commands::pooled;
+use pool_values::Created;
 use room_commands::Desk;
 use std::io;
 use std::io::Write;
-use stringpool::{Showable, StringPool};
-
-// Commands, each the bytes of its word as one number, the first byte the highest.
-pub const CREATE: u64 = 0x637265617465;
-
-// A word that is too long for that: the number of `create`, and a bit above the bytes of every other.
-pub const CREATE_DEFAULT: u64 = 0x0100_6372_6561_7465;
-
-pub const REMOVE: u64 = 0x72656d6f7665;
-
-pub const VALUE: u64 = 0x76616c7565;
-
-pub const SHOW: u64 = 0x73686f77;
+use stringpool::{Rooms, RoomsMut, StringPool};
 
 // The answer to a kind that there is not: 16, after 22 and 24.
-fn unknown<W: Write>(
-    w: &mut W,
-    pool: StringPool,
-    lengths: &[u32],
-    counts: &[u16],
-    text: &[u8],
-) -> io::Result<()> {
-    let judged = pool_values::to_value(ValueRef::Null, pool, lengths, counts, text);
-    match judged {
-        Shown::Value(_) => shown::say(w, b"error 16"),
-        Shown::Refused(why) => shown::refused(w, why),
+fn unknown<W: Write>(w: &mut W, pool: StringPool, rooms: Rooms<'_, '_>) -> io::Result<()> {
+    match pool_values::to_value(ValueRef::Null, pool, rooms) {
+        Ok(_) => shown::say(w, b"error 16"),
+        Err(why) => shown::refused(w, why),
     }
 }
 
-fn value_of(cell: Cell) -> Value {
-    let number = cell.number;
-    let kind = cell.kind;
-    match kind {
-        0 => Value::Null,
-        1 => Value::Int(number),
-        2 => Value::Str,
-        _ => Value::Binary,
-    }
-}
-
-fn reference_of(cell: Cell) -> ValueRef {
-    let number = cell.number;
-    let kind = cell.kind;
-    match kind {
-        0 => ValueRef::Null,
-        1 => ValueRef::Int(number),
-        2 => ValueRef::Str(StringRef(number)),
-        _ => ValueRef::Binary,
-    }
-}
-
-// A text is taken by the first entry that is free or equal, as the crate chooses, or by the default.
-fn created(
-    first: bool,
-    value: Value,
-    new: &[u8],
-    pool: StringPool,
-    lengths: &mut [u32],
-    counts: &mut [u16],
-    text: &mut [u8],
-) -> Created {
-    if first {
-        return pool_values::create_first(value, new, pool, lengths, counts, text);
-    }
-    pool_values::create(value, new, pool, lengths, counts, text)
-}
-
-fn create<W: Write>(
-    w: &mut W,
-    first: bool,
-    cell: Cell,
-    s: &[u8],
-    at: usize,
-    desk: Desk,
-    lengths: &mut [u32],
-    counts: &mut [u16],
-    text: &mut [u8],
-) -> io::Result<Desk> {
-    let pool = desk.pool;
-    let mut new = text_room();
-    let n = bytes_at(s, after(s, at), &mut new);
-    let new = front(&new, n);
-    let answer = created(first, value_of(cell), new, pool, lengths, counts, text);
-    match answer {
-        Created::Value(made, after) => {
+// A value is created by `make`, whose text is taken by a choice.
+fn created<
+    W: Write,
+    F: FnOnce(Value, &[u8], StringPool, &mut RoomsMut<'_>) -> Result<Created, Refusal>,
+>(w: &mut W, words: Words<'_>, desk: Desk, rooms: &mut RoomsMut<'_>, make: F) -> io::Result<Desk>
+    requires { F.IsAlwaysCallable make }
+    ensures { IfOk result (λ d. (d.lengths ≡ desk.lengths) × (d.counts ≡ desk.counts) × (d.text ≡ desk.text) × (d.places ≡ desk.places) × (d.left ≡ desk.left) × (d.width ≡ desk.width)) }
+{
+    let Some(value) = value_of(cell_at(words)) else {
+        unknown(w, desk.pool, rooms.view())?;
+        return Ok(desk);
+    };
+    let mut text = [0u8; 70_016];
+    let n = words.after().bytes_in(&mut text);
+    match make(value, front(&text, n), desk.pool, rooms) {
+        Ok(made) => {
             shown::say(w, b"ok ")?;
-            shown::cell(w, made.kind(), made.number())?;
-            Ok(desk.with_pool(after))
+            shown::cell(w, made.value.into())?;
+            Ok(desk.with_pool(made.pool))
         }
-        Created::Refused(why) => {
+        Err(why) => {
             shown::refused(w, why)?;
             Ok(desk)
         }
     }
 }
 
-fn remove<W: Write>(
+// `create VALUE`: a text is taken by the first entry that is free or equal, as the crate chooses.
+pub fn create<W: Write>(
     w: &mut W,
-    cell: Cell,
+    words: Words<'_>,
     desk: Desk,
-    lengths: &mut [u32],
-    counts: &mut [u16],
-    text: &mut [u8],
-) -> io::Result<Desk> {
-    let pool = desk.pool;
-    pooled(
-        w,
-        pool_values::remove(reference_of(cell), pool, lengths, counts, text),
-        desk,
-    )
+    rooms: &mut RoomsMut<'_>,
+) -> io::Result<Desk>
+    ensures { IfOk result (λ d. (d.lengths ≡ desk.lengths) × (d.counts ≡ desk.counts) × (d.text ≡ desk.text) × (d.places ≡ desk.places) × (d.left ≡ desk.left) × (d.width ≡ desk.width)) }
+{
+    created(w, words, desk, rooms, pool_values::create_first)
 }
 
-fn found_out<W: Write>(w: &mut W, found: &[u8], as_value: bool) -> io::Result<()> {
-    shown::say(w, b"ok ")?;
-    if as_value {
-        return shown::text(w, found);
-    }
-    shown::bytes(w, found)
-}
-
-// A text that was found, by way of an output.
-fn shows<W: Write>(
+// `create-default VALUE`
+pub fn create_default<W: Write>(
     w: &mut W,
-    found: &[u8],
-    as_value: bool,
+    words: Words<'_>,
+    desk: Desk,
+    rooms: &mut RoomsMut<'_>,
+) -> io::Result<Desk>
+    ensures { IfOk result (λ d. (d.lengths ≡ desk.lengths) × (d.counts ≡ desk.counts) × (d.text ≡ desk.text) × (d.places ≡ desk.places) × (d.left ≡ desk.left) × (d.width ≡ desk.width)) }
+{
+    created(w, words, desk, rooms, pool_values::create)
+}
+
+// `remove CELL`
+pub fn remove<W: Write>(
+    w: &mut W,
+    words: Words<'_>,
+    desk: Desk,
+    rooms: &mut RoomsMut<'_>,
+) -> io::Result<Desk>
+    ensures same { SameRooms rooms.old rooms.new }
+{
+    let Some(reference) = reference_of(cell_at(words)) else {
+        unknown(w, desk.pool, rooms.view())?;
+        return Ok(desk);
+    };
+    pooled(w, pool_values::remove(reference, desk.pool, rooms), desk)
+}
+
+// A text that was found, by way of an output: `write` writes it.
+fn found<W: Write, F: FnOnce(&mut W, &[u8]) -> io::Result<()>>(
+    w: &mut W,
+    text: &[u8],
     desk: Desk,
     out: &mut [u8],
-) -> io::Result<Desk> {
-    let n = places::bytes(out, desk.output(found.len()));
+    write: F,
+) -> io::Result<Desk>
+    requires { F.IsAlwaysCallable write }
+    ensures { IfOk result (λ d. (d.pool ≡ desk.pool) × (d.lengths ≡ desk.lengths) × (d.counts ≡ desk.counts) × (d.text ≡ desk.text) × (d.places ≡ desk.places)) }
+{
+    let n = places::of(out, desk.output(text.len()));
     kept::fill(&mut out[..n]);
-    if n < found.len() {
+    if n < text.len() {
         shown::refused(w, Refusal::OutputRoom)?;
-        return Ok(desk.leaves(n, 1));
+    } else {
+        kept::list(text, out);
+        shown::say(w, b"ok ")?;
+        write(w, text)?;
     }
-    kept::bytes(found, out);
-    found_out(w, found, as_value)?;
     Ok(desk.leaves(n, 1))
-}
-
-// An output that a refused call left.
-fn untouched(desk: Desk, out: &mut [u8]) -> Desk {
-    let n = places::bytes(out, desk.output(0));
-    kept::fill(&mut out[..n]);
-    desk.leaves(n, 1)
 }
 
 // `show REF`
 pub fn show<W: Write>(
     w: &mut W,
-    s: &[u8],
-    at: usize,
+    words: Words<'_>,
     desk: Desk,
-    lengths: &[u32],
-    counts: &[u16],
-    text: &[u8],
+    rooms: Rooms<'_, '_>,
     out: &mut [u8],
-) -> io::Result<Desk> {
-    let number = numbers::signed_at(s, at);
-    let pool = desk.pool;
-    let answer = pool.get_refusal(lengths, counts, text, number);
-    match answer {
-        Showable::Yes => shows(w, pool.get(lengths, counts, text, number), false, desk, out),
-        Showable::Refused(why) => {
+) -> io::Result<Desk>
+    ensures { IfOk result (λ d. (d.pool ≡ desk.pool) × (d.lengths ≡ desk.lengths) × (d.counts ≡ desk.counts) × (d.text ≡ desk.text) × (d.places ≡ desk.places)) }
+{
+    let number = words.signed();
+    match desk.pool.get_refusal(rooms, number) {
+        Ok(()) => found(w, desk.pool.get(rooms, number), desk, out, shown::bytes),
+        Err(why) => {
             shown::refused(w, why)?;
-            Ok(untouched(desk, out))
+            // The output that the refused call left.
+            let n = places::of(out, desk.output(0));
+            kept::fill(&mut out[..n]);
+            Ok(desk.leaves(n, 1))
         }
     }
 }
@@ -193,74 +151,32 @@ fn plain<W: Write>(w: &mut W, value: Value) -> io::Result<()> {
     }
 }
 
-fn value<W: Write>(
+// `value CELL`
+pub fn value<W: Write>(
     w: &mut W,
-    cell: Cell,
+    words: Words<'_>,
     desk: Desk,
-    lengths: &[u32],
-    counts: &[u16],
-    text: &[u8],
+    rooms: Rooms<'_, '_>,
     out: &mut [u8],
-) -> io::Result<Desk> {
-    let pool = desk.pool;
-    let reference = reference_of(cell);
-    let answer = pool_values::to_value(reference, pool, lengths, counts, text);
-    match answer {
-        Shown::Value(value) => {
-            if cell.kind == 2 {
-                return shows(
-                    w,
-                    pool_values::to_text(reference, pool, lengths, counts, text),
-                    true,
-                    desk,
-                    out,
-                );
-            }
+) -> io::Result<Desk>
+    ensures { IfOk result (λ d. (d.pool ≡ desk.pool) × (d.lengths ≡ desk.lengths) × (d.counts ≡ desk.counts) × (d.text ≡ desk.text) × (d.places ≡ desk.places)) }
+{
+    let Some(reference) = reference_of(cell_at(words)) else {
+        unknown(w, desk.pool, rooms)?;
+        return Ok(desk);
+    };
+    match pool_values::to_value(reference, desk.pool, rooms) {
+        Ok(Value::Str) => {
+            let text = pool_values::to_text(reference, desk.pool, rooms);
+            found(w, text, desk, out, shown::text)
+        }
+        Ok(value) => {
             plain(w, value)?;
             Ok(desk)
         }
-        Shown::Refused(why) => {
+        Err(why) => {
             shown::refused(w, why)?;
             Ok(desk)
         }
     }
-}
-
-// `create` and `create-default`, `remove`, `value`
-pub fn answer<W: Write>(
-    w: &mut W,
-    word: u64,
-    s: &[u8],
-    at: usize,
-    desk: Desk,
-    lengths: &mut [u32],
-    counts: &mut [u16],
-    text: &mut [u8],
-    out: &mut [u8],
-) -> io::Result<Desk> {
-    let cell = cell_at(s, at);
-    if cell.kind > 3 {
-        unknown(w, desk.pool, lengths, counts, text)?;
-        return Ok(desk);
-    }
-    match word {
-        CREATE | CREATE_DEFAULT => create(
-            w,
-            word == CREATE,
-            cell,
-            s,
-            at,
-            desk,
-            lengths,
-            counts,
-            text,
-        ),
-        REMOVE => remove(w, cell, desk, lengths, counts, text),
-        _ => value(w, cell, desk, lengths, counts, text, out),
-    }
-}
-
-// An array that a call gives back is known by its size, and not place by place.
-fn text_room() -> [u8; 70016] {
-    [0u8; 70016]
 }

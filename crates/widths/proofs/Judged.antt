@@ -1,5 +1,5 @@
 -- The columns in use, and what their judge says of them.
-use mathlib.Core.Path.{◌≡◌, refl, sym, ◌∙◌, ap}
+use mathlib.Core.Path.{◌≡◌, refl, sym, ◌∙◌}
 use mathlib.Core.Bool.{Bool, true, false}
 use mathlib.Core.List.{List, [], ◌∷◌, map}
 use Prim.Native.Nat.{ℕ, zero, suc, ◌+◌, ◌<◌, ◌≤◌}
@@ -7,13 +7,15 @@ use native.Mathlib.Numerals.{add-one}
 use native.Mathlib.Omega.{arith}
 use lib.Dec.{ltb}
 use borrow.Author.Tests.{le-ltb, ltb-false}
-use lib.ListN.{length, get_or, drop, length-map, drop_of_length-le}
-use lib.Seq.{get_or-take, length-take-le, slice-cons}
+use lib.ListN.{length, get_or, drop, length-map}
+use lib.Seq.{length-take-le, slice-cons}
 use Rattle.common.specs.Choice.{when◌then◌else◌}
-use Rattle.common.specs.Answers.{Place, nowhere, Answer, gives, refused, on_given, refusal_of}
+use Rattle.common.specs.Answers.{Place, nowhere, column, Answer, gives, refused, on_given, refusal_of}
 use Rattle.common.proofs.Bools.{clash}
-use Rattle.common.proofs.Answers.{given_refusal, after-given, after-refused, passed}
-use Rattle.cell.specs.declared.form.ColumnType.TheVariants.{Int16}
+use Rattle.common.proofs.Answers.{given, given_refusal, after-given, after-refused, passed}
+use Rattle.cell.specs.declared.form.CellForm.{CellForm}
+use Rattle.cell.specs.declared.form.ColumnType.{ColumnType}
+use Rattle.cell.specs.declared.form.ColumnType.TheVariants.{Int16, Int32, Str, Binary}
 use Rattle.column.specs.declared.column.Column.{Column}
 use Rattle.cell.specs.Forms.{form_for, form_answer, sound_type}
 use Rattle.column.specs.Columns.{building, finished}
@@ -24,7 +26,7 @@ abbrev pub no_column : Column
 no_column = finished building Int16
 
 module _ (columns : List Column) (count : ℕ) (few : count ≤ 64) (e : length columns ≡ 64) where
-  used : length (used_columns columns count) ≡ count
+  pub used : length (used_columns columns count) ≡ count
   used = length-take-le count columns (omega arith)
 
   pub types_count : length (used_types columns count) ≡ count
@@ -33,16 +35,10 @@ module _ (columns : List Column) (count : ℕ) (few : count ≤ 64) (e : length 
   pub columns_next : (c : ℕ) → c < count → drop c (used_columns columns count) ≡ get_or columns c no_column ∷ drop (c + 1) (used_columns columns count)
   columns_next c h = rw add-one (slice-cons c count columns no_column h (omega arith))
 
-  pub columns_done : (c : ℕ) → count ≤ c → drop c (used_columns columns count) ≡ []
-  columns_done c h = drop_of_length-le (used_columns columns count) {i = c} (rw used h)
-
 type-in : (xs : List Column) (c : ℕ) → type_at (map (λ (x : Column). x.coltype) xs) c ≡ (get_or xs c no_column).coltype
 type-in [] c = refl
 type-in (x ∷ xs) zero = refl
 type-in (x ∷ xs) (suc c) = type-in xs c
-
-pub type-at : (columns : List Column) (count c : ℕ) → c < count → type_at (used_types columns count) c ≡ (get_or columns c no_column).coltype
-type-at columns count c h = type-in (used_columns columns count) c ∙ ap (λ (x : Column). x.coltype) (get_or-take count columns c no_column h)
 
 -- ---- one more column, judged; and one that is refused
 
@@ -56,6 +52,17 @@ module _ {A B : Type 0} (f : ℕ → A → Answer B) (x : A) (xs : List A) (c : 
 -- what the form of a column says of it
 pub form_said : (c : ℕ) (x : Column) (long : Bool) → refusal_of (form_answer c x.coltype long) ≡ refusal_of (sound_column c x)
 form_said c x long = given_refusal (sound_type c x.coltype) (λ u. form_for u long) ∙ sym (given_refusal (sound_type c x.coltype) (λ u. x))
+
+-- and the form where it is given
+pub form_made : (c : ℕ) (t : ColumnType) (long : Bool) (f : CellForm) → gives f ≡ form_answer c t long → f ≡ form_for t long
+form_made c Int16 long f e = given e
+form_made c Int32 long f e = given e
+form_made c (Str max) long f e = go (ltb 255 max) e
+  where
+    go : (b : Bool) → gives f ≡ on_given (when b then refused 19 (column c) else gives (Str max)) (λ u. gives (form_for u long)) → f ≡ form_for (Str max) long
+    go true e = clash (cc)
+    go false e = given e
+form_made c Binary long f e = given e
 
 -- ---- what a call answers, after the judge
 

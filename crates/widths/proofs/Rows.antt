@@ -6,22 +6,23 @@ use Prim.Native.Nat.{ℕ, zero, suc, ◌+◌, ◌*◌, ◌/◌, ◌<◌, ◌≤�
 use native.Mathlib.Nat.{not-suc-le-zero, le_of_suc-le-suc, add-zero, zero-add, div-mul-le_self, zero-mul}
 use native.Mathlib.Omega.{arith}
 use lib.Dec.{lit≤, ltb, eqb}
-use borrow.Author.Tests.{ltb-false, ne_eqb}
+use borrow.Author.Tests.{ltb-false}
 use lib.ListN.{length, get_or, take, drop, length-map, get_or-append}
 use Rattle.common.specs.Choice.{when◌then◌else◌}
 use Rattle.common.specs.Lists.{◌over◌}
-use Rattle.common.specs.Answers.{Place, Answer, nowhere, gives, refused, on_given, refusal_of, outcome}
+use Rattle.common.specs.Answers.{Answer, nowhere, gives, refused, on_given, refusal_of}
 use Rattle.common.proofs.Bools.{clash}
+use Rattle.common.proofs.Answers.{given}
 use Rattle.cell.specs.declared.form.ColumnType.{ColumnType}
 use Rattle.cell.specs.declared.form.ColumnType.TheVariants.{Int16, Int32, Str, Binary}
 use Rattle.cell.specs.Cells.{width}
 use Rattle.cell.proofs.Cells.{width-le}
 use Rattle.column.specs.declared.column.Column.{Column}
 use Rattle.widths.specs.Judged.{used_types, sound_columns}
-use Rattle.widths.specs.Widths.{widths_in, row_size_lem, type_at, zeros, widths_for, no_widths_lem, widths_outcome}
+use Rattle.widths.specs.Widths.{widths_in, row_size_lem, type_at, zeros, widths_for, widths_outcome}
 use Rattle.widths.specs.declared.places.Places.{Places}
 use Rattle.widths.specs.declared.widths.Widths.{Widths}
-use Rattle.widths.specs.Places.{rows_in, starts_from, places_for, no_places_lem, rows_answer, places_outcome}
+use Rattle.widths.specs.Places.{rows_in, starts_from, places_for, rows_answer, places_outcome}
 use Rattle.widths.proofs.Judged.{count-few}
 
 width_some : (t : ColumnType) (long : Bool) → 0 < width t long
@@ -89,15 +90,6 @@ rows_within size n rows false e q = rw q (div-mul-le_self n size)
 pub rows_hold : (ts : List ColumnType) (long : Bool) (bytes : ℕ) → rows_in ts long bytes * row_size_lem ts long ≤ bytes
 rows_hold ts long bytes = rows_within (row_size_lem ts long) bytes (rows_in ts long bytes) (eqb (row_size_lem ts long) 0) refl refl
 
--- where there is a row size they are the whole part of the quotient
-pub rows_are : (ts : List ColumnType) (long : Bool) (bytes : ℕ) → 0 < row_size_lem ts long → rows_in ts long bytes ≡ bytes / row_size_lem ts long
-rows_are ts long bytes h = rw (ne_eqb (row_size_lem ts long) 0 (λ e. omega arith))
-
--- so columns begin where as many begin
-pub starts_same : (ts : List ColumnType) (long : Bool) (bytes : ℕ) → starts_from (bytes / row_size_lem ts long) 0 (widths_in ts long) ≡ starts_from (rows_in ts long bytes) 0 (widths_in ts long)
-starts_same [] long bytes = refl
-starts_same (t ∷ ts) long bytes = ap (λ (n : ℕ). starts_from n 0 (widths_in (t ∷ ts) long)) (sym (rows_are (t ∷ ts) long bytes (size-some long (t ∷ ts) 0 (omega arith))))
-
 pub record Found (columns : List Column) (count : ℕ) (long : Bool) (bytes rows : ℕ) : Type 0 where
   pub small : bytes ≤ 268435455
   pub sound : gives tt ≡ refusal_of (sound_columns columns count)
@@ -122,49 +114,29 @@ module _ (columns : List Column) (count : ℕ) (long : Bool) (bytes rows : ℕ) 
           let sound : gives tt ≡ refusal_of (sound_columns columns count) = rw q in
           record { small = ltb-false 268435455 bytes p; sound = sound; narrow = count-few columns count sound; is = sym same; few = rw (← same) (ltb-false 65536 all r) }
 
--- the places are given where the rows are, and refused as they are
-module _ (columns : List Column) (count : ℕ) (long : Bool) (bytes : ℕ) (p : Places) where
-  abbrev rows_there : Answer ℕ
-  rows_there = rows_answer columns count long bytes
+-- the places are given where the rows are
+module _ (columns : List Column) (count : ℕ) (long : Bool) (bytes : ℕ) where
+  abbrev places_on : Answer ℕ → Answer Places
+  places_on a = on_given a (λ rows. gives (places_for (used_types columns count) long rows))
 
-  abbrev places_on : Answer ℕ → Answer (Unit {0}) × Places
-  places_on a = outcome no_places_lem (on_given a (λ rows. gives (tt, places_for (used_types columns count) long rows)))
-
-  pub places_refused : (n : ℕ) (at : Place) → (refused n at, p) ≡ places_outcome columns count long bytes → rows_there ≡ refused n at
-  places_refused n at e = go rows_there (ap (λ (x : Answer (Unit {0}) × Places). x.0) e)
+  pub places_given : (p : Places) → gives p ≡ places_outcome columns count long bytes → (rows_answer columns count long bytes ≡ gives p.rows) × (p ≡ places_for (used_types columns count) long p.rows)
+  places_given p e = go (rows_answer columns count long bytes) e
     where
-      go : (a : Answer ℕ) → refused n at ≡ (places_on a).0 → a ≡ refused n at
-      go (gives rows) f = clash (cc)
-      go (refused m k) f = cc
-
-  pub places_given : (gives tt, p) ≡ places_outcome columns count long bytes → (rows_there ≡ gives p.rows) × (p ≡ places_for (used_types columns count) long p.rows)
-  places_given e = go rows_there (ap (λ (x : Answer (Unit {0}) × Places). x.0) e) (ap (λ (x : Answer (Unit {0}) × Places). x.1) e)
-    where
-      go : (a : Answer ℕ) → gives tt ≡ (places_on a).0 → p ≡ (places_on a).1 → (a ≡ gives p.rows) × (p ≡ places_for (used_types columns count) long p.rows)
-      go (gives rows) f q =
+      go : (a : Answer ℕ) → gives p ≡ places_on a → (a ≡ gives p.rows) × (p ≡ places_for (used_types columns count) long p.rows)
+      go (gives rows) f =
+          let q : p ≡ places_for (used_types columns count) long rows = given f in
           let r : p.rows ≡ rows = ap (λ (x : Places). x.rows) q in
           (ap gives (sym r), q ∙ ap (places_for (used_types columns count) long) (sym r))
-      go (refused m k) f q = clash (cc)
+      go (refused m k) f = clash (cc)
 
 -- and the widths where the columns are sound
-module _ (columns : List Column) (count : ℕ) (long : Bool) (w : Widths) where
-  abbrev widths_on : Answer (List Column) → Answer (Unit {0}) × Widths
-  widths_on a = outcome no_widths_lem (on_given a (λ xs. gives (tt, widths_for (used_types columns count) long)))
+module _ (columns : List Column) (count : ℕ) (long : Bool) where
+  abbrev widths_on : Answer (List Column) → Answer Widths
+  widths_on a = on_given a (λ xs. gives (widths_for (used_types columns count) long))
 
-  pub widths_refused : (n : ℕ) (at : Place) → (refused n at, w) ≡ widths_outcome columns count long → refused n at ≡ refusal_of (sound_columns columns count)
-  widths_refused n at e = go (sound_columns columns count) (ap (λ (x : Answer (Unit {0}) × Widths). x.0) e)
+  pub widths_given : (w : Widths) → gives w ≡ widths_outcome columns count long → (gives tt ≡ refusal_of (sound_columns columns count)) × (w ≡ widths_for (used_types columns count) long)
+  widths_given w e = go (sound_columns columns count) e
     where
-      go : (a : Answer (List Column)) → refused n at ≡ (widths_on a).0 → refused n at ≡ refusal_of a
-      go (gives xs) f = clash (cc)
-      go (refused m k) f = f
-
-  pub widths_given : (gives tt, w) ≡ widths_outcome columns count long → (gives tt ≡ refusal_of (sound_columns columns count)) × (w ≡ widths_for (used_types columns count) long)
-  widths_given e = go (sound_columns columns count) (ap (λ (x : Answer (Unit {0}) × Widths). x.0) e) (ap (λ (x : Answer (Unit {0}) × Widths). x.1) e)
-    where
-      go : (a : Answer (List Column)) → gives tt ≡ (widths_on a).0 → w ≡ (widths_on a).1 → (gives tt ≡ refusal_of a) × (w ≡ widths_for (used_types columns count) long)
-      go (gives xs) f q = (refl, q)
-      go (refused m k) f q = clash (cc)
-
-pub places_same : {rows : ℕ} {w x s z : List ℕ} → w ≡ x → s ≡ z
-    → ◌≡◌ {A = Answer (Unit {0}) × Places} (gives tt, record { rows = rows; widths = w; starts = s }) (gives tt, record { rows = rows; widths = x; starts = z })
-places_same e f = rw (e, f)
+      go : (a : Answer (List Column)) → gives w ≡ widths_on a → (gives tt ≡ refusal_of a) × (w ≡ widths_for (used_types columns count) long)
+      go (gives xs) f = (refl, given f)
+      go (refused m k) f = clash (cc)

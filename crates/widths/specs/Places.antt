@@ -3,13 +3,11 @@ use Rattle.std.specs.Prelude.{ℕ, ◌+◌, ◌*◌, ◌/◌, Bool, List, [], �
 use Rattle.common.specs.Choice.{when◌then◌else◌, ◌<?◌, ◌=?◌}
 use Rattle.common.specs.Sizes.{max_bytes, max_rows}
 use Rattle.common.specs.Lists.{◌over◌}
-use Rattle.common.specs.Answers.{Answer, gives, refused, nowhere, on_given, outcome}
-use Rattle.order.specs.Order.{fits_as}
+use Rattle.common.specs.Answers.{Answer, gives, refused, nowhere, on_given}
 use Rattle.cell.specs.declared.form.ColumnType.{ColumnType}
 use Rattle.cell.specs.Cells.{width}
 use Rattle.column.specs.declared.column.Column.{Column}
 use Rattle.widths.specs.declared.places.Places.{Places}
-use Rattle.widths.specs.declared.places.PlacesFound.{PlacesFound}
 use Rattle.widths.specs.Judged.{used_types, on_sound_columns}
 use Rattle.widths.specs.Widths.{widths_in, row_size_lem, type_at, zeros}
 
@@ -42,12 +40,5 @@ rows_answer columns count long bytes =
     when max_bytes <? bytes then refused 22 nowhere else on_sound_columns columns count (rows_found (used_types columns count) long bytes)
 
 -- and the places of its columns
-abbrev pub no_places_lem : Places
-no_places_lem = record { rows = 0; widths = zeros; starts = zeros }
-
-abbrev pub places_outcome : List Column → ℕ → Bool → ℕ → Answer (Unit {0}) × Places
-places_outcome columns count long bytes =
-    outcome no_places_lem (on_given (rows_answer columns count long bytes) (λ rows. gives (tt, places_for (used_types columns count) long rows)))
-
-abbrev pub places_as : PlacesFound → Answer (Unit {0}) × Places
-places_as r = (fits_as r.answer, r.places)
+abbrev pub places_outcome : List Column → ℕ → Bool → ℕ → Answer Places
+places_outcome columns count long bytes = on_given (rows_answer columns count long bytes) (λ rows. gives (places_for (used_types columns count) long rows))

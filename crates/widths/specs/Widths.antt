@@ -1,14 +1,12 @@
 -- Document 01, "Rows": the widths of columns and their sum, over the types of the columns.
 use Rattle.std.specs.Prelude.{ℕ, Bool, List, map, get_or, replicate}
 use Rattle.common.specs.Lists.{◌over◌, total}
-use Rattle.common.specs.Answers.{Answer, gives, outcome}
-use Rattle.order.specs.Order.{fits_as}
+use Rattle.common.specs.Answers.{Answer, gives}
 use Rattle.cell.specs.declared.form.ColumnType.{ColumnType}
 use Rattle.cell.specs.declared.form.ColumnType.TheVariants.{Int16}
 use Rattle.cell.specs.Cells.{width}
 use Rattle.column.specs.declared.column.Column.{Column}
 use Rattle.widths.specs.declared.widths.Widths.{Widths}
-use Rattle.widths.specs.declared.widths.WidthsFound.{WidthsFound}
 use Rattle.widths.specs.Judged.{used_types, on_sound_columns}
 
 abbrev pub widths_in : List ColumnType → Bool → List ℕ
@@ -28,12 +26,6 @@ zeros = replicate 64 0
 abbrev pub widths_for : List ColumnType → Bool → Widths
 widths_for ts long = record { widths = widths_in ts long over zeros; row_size = row_size_lem ts long }
 
-abbrev pub no_widths_lem : Widths
-no_widths_lem = record { widths = zeros; row_size = 0 }
-
 -- 20, 19
-abbrev pub widths_outcome : List Column → ℕ → Bool → Answer (Unit {0}) × Widths
-widths_outcome columns count long = outcome no_widths_lem (on_sound_columns columns count (gives (tt, widths_for (used_types columns count) long)))
-
-abbrev pub widths_as : WidthsFound → Answer (Unit {0}) × Widths
-widths_as r = (fits_as r.answer, r.widths)
+abbrev pub widths_outcome : List Column → ℕ → Bool → Answer Widths
+widths_outcome columns count long = on_sound_columns columns count (gives (widths_for (used_types columns count) long))

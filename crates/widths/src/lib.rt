@@ -4,5 +4,5 @@
 mod places;
 mod widths;
 
-pub use crate::places::{Places, PlacesFound, places_of};
-pub use crate::widths::{Widths, WidthsFound, widths_of};
+pub use crate::places::{Places, places_of};
+pub use crate::widths::{Widths, widths_of};

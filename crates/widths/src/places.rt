@@ -1,15 +1,16 @@
 // The rows of a stream, and where each column begins in it.
 ghost use Rattle.std.specs.Prelude.{◌≡◌, ◌*◌, ◌/◌, ◌<◌, ◌≤◌, take};
 ghost use Rattle.common.specs.Choice.{when◌then◌else◌, ◌=?◌};
+ghost use Rattle.common.specs.Refusals.{answered};
 ghost use Rattle.common.specs.Lists.{◌over◌, total};
 ghost use Rattle.widths.specs.Widths.{zeros};
-ghost use Rattle.widths.specs.Places.{starts_from, no_places_lem, places_outcome, places_as};
+ghost use Rattle.widths.specs.Places.{starts_from, places_outcome};
 
 use crate::widths;
+use crate::widths::Widths;
 use column::Column;
 use common::Refusal;
 use common::sizes::{MAX_BYTES, MAX_ROWS};
-use order::Fits;
 
 // Each column's width, and where it begins in the stream. They travel by value.
 #[derive(Clone, Copy)]
@@ -19,58 +20,29 @@ pub struct Places {
     pub starts: [usize; 64],
 }
 
-// Whether there are rows to be found, and their places, all 0 where there are none.
-#[derive(Clone, Copy)]
-pub struct PlacesFound {
-    pub answer: Fits,
-    pub places: Places,
-}
-
 // The complete rows of a stream of so many bytes, and the places of its columns.
 pub fn places_of(
     columns: [Column; 64],
     count: usize,
     long_string_refs: bool,
     bytes: usize,
-) -> PlacesFound
-    ensures { places_as result ≡ places_outcome columns count long_string_refs bytes }
+) -> Result<Places, Refusal>
+    ensures { answered result ≡ places_outcome columns count long_string_refs bytes }
 {
-    if MAX_BYTES < bytes {
-        return no_places(Refusal::OverSize);
+    if bytes > MAX_BYTES {
+        return Err(Refusal::OverSize);
     }
-    let judged = widths::widths_of(columns, count, long_string_refs);
-    let verdict = judged.answer;
-    if let Fits::Refused(refusal) = verdict {
-        return no_places(refusal);
+    let Widths { widths, row_size } = widths::widths_of(columns, count, long_string_refs)?;
+    let rows = rows_of(row_size, bytes);
+    if rows > MAX_ROWS {
+        return Err(Refusal::TooManyRows);
     }
-    let found = judged.widths;
-    let widths = found.widths;
-    let rows = rows_of(found.row_size, bytes);
-    if MAX_ROWS < rows {
-        return no_places(Refusal::TooManyRows);
-    }
-    let starts = starts_of(widths, count, found.row_size, bytes);
-    PlacesFound {
-        answer: Fits::Yes,
-        places: Places {
-            rows,
-            widths,
-            starts,
-        },
-    }
-}
-
-fn no_places(refusal: Refusal) -> PlacesFound
-    ensures { result ≡ record { answer = Fits.Refused refusal; places = no_places_lem } }
-{
-    PlacesFound {
-        answer: Fits::Refused(refusal),
-        places: Places {
-            rows: 0,
-            widths: [0usize; 64],
-            starts: [0usize; 64],
-        },
-    }
+    let starts = starts_of(widths, count, row_size, bytes);
+    Ok(Places {
+        rows,
+        widths,
+        starts,
+    })
 }
 
 fn rows_of(row_size: usize, bytes: usize) -> usize
@@ -89,11 +61,9 @@ fn starts_of(widths: [usize; 64], count: usize, row_size: usize, bytes: usize) -
 {
     let mut starts = [0usize; 64];
     let mut before = 0;
-    let mut c = 0;
-    while c < count {
+    for c in 0..count {
         starts[c] = column_start(bytes, row_size, before);
         before += widths[c];
-        c += 1;
     }
     starts
 }

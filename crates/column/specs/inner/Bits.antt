@@ -1,16 +1,14 @@
 -- The steps of reading and writing a column's bits.
-use Rattle.std.specs.Prelude.{◌≤◌, Bool, false}
+use Rattle.std.specs.Prelude.{◌≤◌, Bool, false, Option, Some, None}
 use Rattle.common.specs.Choice.{◌<?◌}
 use Rattle.common.specs.Sizes.{max_string}
 use Rattle.common.specs.Answers.{Answer, gives, refused, column}
 use Rattle.cell.specs.declared.form.ColumnType.{ColumnType}
 use Rattle.cell.specs.declared.form.ColumnType.TheVariants.{Int16, Int32, Str, Binary}
-use Rattle.column.specs.declared.bits.Read.{Read}
-use Rattle.column.specs.declared.bits.Read.TheVariants as read
 
-abbrev pub read_as : Read → Answer ColumnType
-read_as (read.Type t) = gives t
-read_as read.BadSize = refused 13 (column 0)
+abbrev pub read_as : Option ColumnType → Answer ColumnType
+read_as (Some t) = gives t
+read_as None = refused 13 (column 0)
 
 abbrev pub too_long_lem : ColumnType → Bool
 too_long_lem Int16 = false

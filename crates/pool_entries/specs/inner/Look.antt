@@ -1,8 +1,7 @@
 -- What the searches of a take find; 01's choice is looked for in a state that is judged on the way.
 use Rattle.std.specs.Prelude.{◌≡◌, ℕ, ◌-◌, ◌*◌, ◌<◌, ◌≤◌, true, false, List, length, take, drop, ◌≢◌, slice_index}
 use Rattle.common.specs.Lists.{total}
-use Rattle.little_endian.specs.Numbers.{number_at}
-use Rattle.little_endian.specs.Promises.{AreBytes}
+use Rattle.std.specs.Int.{w64, from_le_bytes}
 use Rattle.pool_entries.specs.Entries.{Entry, entry, Rooms, first_entries}
 use Rattle.pool_entries.specs.Choose.{first_free_or_equal, can_count_up_lem, equal_then_free_lem}
 use Rattle.pool_entries.specs.inner.Adding.{Each}
@@ -10,9 +9,8 @@ use Rattle.pool_entries.specs.inner.Fit.{Fit}
 use Rattle.pool_entries.specs.inner.Sound.{all_small_lem}
 
 -- eight bytes as a number
-pub record Word (s : List ℕ) (at r : ℕ) : Type 0 where
-  pub is : r ≡ number_at 8 s at
-  pub bytes : AreBytes s
+abbrev pub Word : List ℕ → ℕ → ℕ → Type 0
+Word s at r = r ≡ from_le_bytes w64 (take 8 (drop at s))
 
 -- a text's last eight bytes as a number, where it has eight
 abbrev pub Ends : List ℕ → ℕ → Type 0

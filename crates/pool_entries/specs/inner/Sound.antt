@@ -3,9 +3,7 @@ use Rattle.std.specs.Prelude.{ℕ, Bool, true, false, List, [], ◌∷◌, lengt
 use Rattle.common.specs.Choice.{when◌then◌else◌}
 use Rattle.common.specs.Lists.{total}
 use Rattle.pool_entries.specs.Entries.{Rooms}
-use Rattle.pool_entries.specs.declared.judging.State.{State}
-use Rattle.pool_entries.specs.declared.judging.State.TheVariants as state
-use Rattle.common.specs.declared.refusal.Refusal.TheVariants.{Unsound}
+use Rattle.common.specs.Answers.{Answer, gives, refused, nowhere}
 
 -- an entry with count 0 has at most 65,535 bytes
 abbrev pub small_b : ℕ → ℕ → Bool
@@ -33,5 +31,5 @@ abbrev pub sound_b : ℕ → ℕ → Rooms → Bool
 sound_b n codepage w = when fits_b n codepage w.lengths w.counts then sums_b n w.lengths w.counts (length w.text) else false
 
 -- the bytes that the entries use
-abbrev pub used_of : ℕ → List ℕ → List ℕ → ℕ → State
-used_of n ls cs room = when sums_b n ls cs room then state.Sound (total (take n ls)) else state.Refused Unsound
+abbrev pub used_of : ℕ → Rooms → Answer ℕ
+used_of n w = when sums_b n w.lengths w.counts (length w.text) then gives (total (take n w.lengths)) else refused 24 nowhere

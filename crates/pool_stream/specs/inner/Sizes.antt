@@ -1,13 +1,13 @@
 -- The sizes of a pool stream as the code finds them, and its lengths and counts.
-use Rattle.std.specs.Prelude.{ℕ, ◌≤◌, ◌≡◌, List, [], length}
-use Rattle.common.specs.Answers.{Answer, gives, refused, nowhere}
+use Rattle.std.specs.Prelude.{ℕ, ◌≤◌, ◌≡◌, Result, List, [], length}
+use Rattle.common.specs.Answers.{Answer, gives, refused}
 use Rattle.pool_stream.specs.Entries.{pool_entries_lem}
+use Rattle.common.specs.Refusals.{answer_as}
+use Rattle.common.specs.declared.refusal.Refusal.{Refusal}
 use Rattle.pool_stream.specs.declared.plan.Sized.{Sized}
-use Rattle.pool_stream.specs.declared.plan.Sized.TheVariants.{Is, Cut}
 
-abbrev pub sized_as : Sized → Answer (ℕ × ℕ)
-sized_as (Is n t) = gives (n, t)
-sized_as Cut = refused 2 nowhere
+abbrev pub sized_as : Result Sized Refusal → Answer (ℕ × ℕ)
+sized_as sized = answer_as (λ (s : Sized). (s.entries, s.sum)) sized
 
 -- the lengths and the counts of a pool stream, none where it is cut
 abbrev pub or_none : Answer (List ℕ × List ℕ) → List ℕ × List ℕ

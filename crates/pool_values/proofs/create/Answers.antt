@@ -1,11 +1,14 @@
 use mathlib.Core.Path.{sym, ◌∙◌}
-use Rattle.stringpool.specs.Pool.{Rooms, rooms}
+use Rattle.std.specs.Prelude.{Err}
+use Rattle.std.proofs.lemmas.Result.{err_from_is_err_and}
+use Rattle.stringpool.specs.Pool.{rooms_held}
 use Rattle.stringpool.specs.Take.{equal_then_free_lem}
 use Rattle.pool_values.proofs.Pools.{create_text}
 use Rattle.pool_values.proofs.create.Goals as goal
 
-pub returns-then-is_text : goal.returns-then-is_text
-returns-then-is_text c =
-    let Was : Rooms = rooms c.args.lengths.now c.args.counts.now c.args.text.now in
-    rw c.created_of.ensures
-    (create_text c.args.value c.args.new.now c.args.pool Was equal_then_free_lem _ c.incref.result (sym c.is_text.ensures ∙ c.if-is_text.true) c.incref.ensures)
+pub returns-in_err-incref-in-None-clause-outcome : goal.returns-in_err-incref-in-None-clause-outcome
+returns-in_err-incref-in-None-clause-outcome c =
+    let why = err_from_is_err_and c.from_residual.result c.from_residual.ensures.1 in
+    rw (why.1, why.2)
+    (create_text c.args.new.now c.args.pool (rooms_held c.args.rooms.now) _ equal_then_free_lem (Err c.in_err-incref-in-None.field-0.0) c.args.value
+    (sym c.plain_of.ensures ∙ c.in-None.is) c.in_err-incref-in-None.ensures.outcome)

@@ -1,31 +1,22 @@
--- The steps of creating, removing and showing.
-use Rattle.stringpool.specs.declared.pool.StringPool.{StringPool}
+-- The steps of creating and showing.
+use Rattle.std.specs.Prelude.{Option, Some, None}
 use Rattle.stringpool.specs.declared.takes.Taken.{Taken}
-use Rattle.stringpool.specs.declared.takes.Taken.TheVariants as taken
-use Rattle.stringpool.specs.declared.pool.Pooled.{Pooled}
-use Rattle.stringpool.specs.declared.pool.Pooled.TheVariants as pooled
-use Rattle.stringpool.specs.declared.shows.Showable.{Showable}
-use Rattle.stringpool.specs.declared.shows.Showable.TheVariants as showable
 use Rattle.cell.specs.declared.value.ValueRef.{ValueRef}
 use Rattle.cell.specs.declared.value.ValueRef.TheVariants as ref
 use Rattle.cell.specs.declared.value.Value.{Value}
 use Rattle.cell.specs.declared.value.Value.TheVariants as plain
 use Rattle.pool_values.specs.declared.Created.{Created}
-use Rattle.pool_values.specs.declared.Created.TheVariants as created
 
-abbrev pub created_of_lem : Taken → Created
-created_of_lem (taken.Ref r p) = created.Value (ref.Str r) p
-created_of_lem (taken.Refused x) = created.Refused x
+-- a text that was taken
+abbrev pub text_created : Taken → Created
+text_created t = record { value = ref.Str t.reference; pool = t.pool }
 
-abbrev pub plain_of : Value → ValueRef
-plain_of plain.Null = ref.Null
-plain_of (plain.Int n) = ref.Int n
-plain_of plain.Str = ref.Null
-plain_of plain.Binary = ref.Binary
-
-abbrev pub kept_by_lem : StringPool → Showable → Pooled
-kept_by_lem p showable.Yes = pooled.Is p
-kept_by_lem p (showable.Refused x) = pooled.Refused x
+-- a value that is no text, as it is stored
+abbrev pub plain_of_lem : Value → Option ValueRef
+plain_of_lem plain.Null = Some ref.Null
+plain_of_lem (plain.Int n) = Some (ref.Int n)
+plain_of_lem plain.Str = None
+plain_of_lem plain.Binary = Some ref.Binary
 
 abbrev pub shown_of_lem : ValueRef → Value
 shown_of_lem ref.Null = plain.Null

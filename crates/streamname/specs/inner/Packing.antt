@@ -1,26 +1,18 @@
 -- What the private steps of encoding and decoding answer.
-use Rattle.std.specs.Prelude.{ℕ, ◌+◌, ◌≤◌, ◌<◌, ◌≡◌, ◌&&◌, ◌||◌, List, [], ◌∷◌, map, length, drop, get_or}
-use Rattle.std.proofs.Math.Option.{Option, none, some}
+use Rattle.std.specs.Prelude.{ℕ, ◌+◌, ◌≤◌, ◌<◌, ◌≡◌, ◌&&◌, ◌||◌, List, [], ◌∷◌, map, length, drop, get_or, Option, Some, None}
 use Rattle.common.specs.Choice.{◌<?◌}
 use Rattle.common.specs.Lists.{from, over_at, every}
 use Rattle.streamname.specs.Letters.{to_b64_lem}
 use Rattle.streamname.specs.Names.{encoded, allowed}
-use Rattle.streamname.specs.declared.letters.Packing.{Packing}
-use Rattle.streamname.specs.declared.letters.Packing.TheVariants.{Letter, Other}
 use Rattle.streamname.specs.declared.encoding.Packed.{Packed}
 use Rattle.streamname.specs.declared.encoding.Tally.{Tally}
 use Rattle.streamname.specs.declared.decoding.Unpacked.{Unpacked}
 use Rattle.streamname.specs.declared.decoding.Unpacked.TheVariants.{One, Two}
 
--- the number of a letter, or none
-abbrev pub letter_of : Packing → Option ℕ
-letter_of (Letter a) = some a
-letter_of Other = none
-
 -- document 02, E4: "a fixed table of 128 entries", for each unit below 128 its number as a letter, and 64, which no letter has, for any other
 abbrev pub or_sixty_four : Option ℕ → ℕ
-or_sixty_four (some a) = a
-or_sixty_four none = 64
+or_sixty_four (Some a) = a
+or_sixty_four None = 64
 
 unfoldable pub letter_numbers : List ℕ
 letter_numbers = map (λ u. or_sixty_four (to_b64_lem u)) (from 0 128)
@@ -33,11 +25,11 @@ pub record Front (name : List ℕ) (at : ℕ) (r : Packed) : Type 0 where
   pub moves : 0 < r.used
 
 -- what was tallied of a name up to a place, and what is left, make up the whole
-pub record Tallied (name : List ℕ) (r : Tally) : Type 0 where
-  pub fewer : r.units ≤ r.at
-  pub within : r.at ≤ length name
-  pub counted : r.units + length (encoded (drop r.at name)) ≡ length (encoded name)
-  pub judged : (r.allowed && every allowed (drop r.at name)) ≡ every allowed name
+pub record Tallied (name : List ℕ) (at : ℕ) (r : Tally) : Type 0 where
+  pub fewer : r.units ≤ at
+  pub within : at ≤ length name
+  pub counted : r.units + length (encoded (drop at name)) ≡ length (encoded name)
+  pub judged : (r.allowed && every allowed (drop at name)) ≡ every allowed name
 
 -- the units that a stored unit stands for
 abbrev pub units_of : Unpacked → List ℕ

@@ -1,13 +1,20 @@
-use mathlib.Core.Path.{ap, ◌∙◌}
-use Rattle.stringpool.specs.Pool.{rooms}
+use mathlib.Core.Path.{ap, ap₂, ◌∙◌}
+use Rattle.std.proofs.Common.{rules}
+use Rattle.stringpool.specs.Pool.{Rooms, rooms, rooms_held}
 use Rattle.stringpool.specs.Take.{equal_then_free_lem}
+use Rattle.cell.specs.Kinds.{value_kind, value_number}
+use Rattle.cell.specs.declared.value.Value.{Value}
+use Rattle.pool_values.specs.Pooled.{create_outcome}
 use Rattle.c_types.specs.Values.{plain_in_lem}
+use Rattle.c_types.specs.declared.answers.CreateAnswer.{CreateAnswer}
 use Rattle.c_types.proofs.Numbers.{back}
-use Rattle.msi.proofs.UnknownKinds.{creates}
+use Rattle.msi.proofs.UnknownKinds.{creates, created_for_c}
 use Rattle.msi.proofs.values.strandroost_create.Goals as goal
 
 pub returns : goal.returns
 returns c =
-    creates equal_then_free_lem c.args.kind c.args.number c.args.new.now c.args.pool (rooms c.args.lengths.now c.args.counts.now c.args.text.now)
-    (c.plain_in-value.ensures ∙ ap (plain_in_lem c.args.kind) (back c.args.number c.ranges.number))
-    c.from_created.ensures c.create-answer.ensures
+    let w = rooms c.args.lengths.now c.args.counts.now c.args.text.now in
+    let value-is = c.plain_in.ensures ∙ ap (plain_in_lem c.args.kind) (back c.args.number c.ranges.number) in
+    ap₂ (λ (k : CreateAnswer) (r : Rooms). (k, r)) (c.from.ensures ∙ ap created_for_c c.of_kind.ensures) (search rules)
+    ∙ creates equal_then_free_lem c.args.kind c.args.number c.args.new.now c.args.pool w (rooms_held c.create-created.new.rooms) c.create-created.result
+    (c.create-created.ensures.outcome ∙ ap (λ (v : Value). create_outcome equal_then_free_lem (value_kind v) (value_number v) c.args.new.now c.args.pool w) value-is)

@@ -1,53 +1,41 @@
-use Rattle.std.proofs.Common.{ℕ, sym, ◌∙◌}
-use Rattle.common.specs.Answers.{Answer, gives}
-use Rattle.pool_entries.specs.Entries.{Rooms, rooms, first_entries}
+use Rattle.std.proofs.Common.{◌∙◌, arith}
+use Rattle.std.proofs.lemmas.Result.{err_from_is_err_and}
+use Rattle.pool_entries.specs.Rooms.{rooms_of}
 use Rattle.pool_entries.specs.Choose.{first_free_or_equal}
-use Rattle.pool_entries.specs.Calls.{spot_at}
-use Rattle.pool_entries.proofs.Sound.{fits_few, counted-small, judge_out, judge_unsound, judge_used, judge_sound, judge_fit}
-use Rattle.pool_entries.proofs.Look.{choose_on, spot_found}
+use Rattle.pool_entries.specs.inner.Fit.{Fit}
+use Rattle.pool_entries.proofs.Sound.{counted-small, entries-refused, used-refused, used-given, used-fit}
+use Rattle.pool_entries.proofs.Look.{chosen_by, choose_on, spot_found}
 use Rattle.pool_entries.proofs.choosing.choose.Goals as goal
 
-pub returns-then-not-fits : goal.returns-then-not-fits
-returns-then-not-fits c =
-    let W : Rooms = rooms c.args.lengths.now c.args.counts.now c.args.text.now in
-    let Given : Answer (ℕ × ℕ × ℕ) = gives (spot_at c.args.num_strings W (first_free_or_equal c.args.new.now (first_entries c.args.num_strings W))) in
-    judge_out c.args.num_strings c.args.codepage W Given c.if-text-gt-MAX_BYTES.false (sym c.fits.ensures ∙ c.if-not-fits.true)
-    ∙ choose_on first_free_or_equal c.args.num_strings c.args.codepage W c.args.new.now c.if-new-gt-MAX_BYTES.false
+pub returns-in_err-entries : goal.returns-in_err-entries
+returns-in_err-entries c =
+    let a = c.args in
+    let p = err_from_is_err_and c.from_residual.result c.from_residual.ensures.1 in
+    rw (p.1, p.2)
+    (choose_on first_free_or_equal a.num_strings (rooms_of a.rooms) a.new.now a.codepage c.if-new-gt-MAX_BYTES.false
+    (entries-refused a.num_strings a.codepage (rooms_of a.rooms) (chosen_by first_free_or_equal a.new.now) (c.in_err-entries.ensures)))
 
-pub search-s-requires : goal.search-s-requires
-search-s-requires c =
-    let f = fits_few c.args.num_strings c.args.codepage c.args.lengths.now c.args.counts.now (sym c.fits.ensures ∙ c.if-not-fits.false) in
-    (f.lengths, f.counts, f.few, c.if-new-gt-MAX_BYTES.false)
-
-pub used_after-u-requires-clause-n_in_bounds : goal.used_after-u-requires-clause-n_in_bounds
-used_after-u-requires-clause-n_in_bounds c =
-    let f = fits_few c.args.num_strings c.args.codepage c.args.lengths.now c.args.counts.now (sym c.fits.ensures ∙ c.if-not-fits.false) in
+pub used_after-requires-clause-sum_to : goal.used_after-requires-clause-sum_to
+used_after-requires-clause-sum_to c =
+    let e = c.in_ok-entries.entries in
     let d = c.search-s.ensures in
-    (f.lengths, f.counts, f.few, d.within)
+    (d.sum, counted-small e.n e.rooms.lengths.now e.rooms.counts.now (omega arith) (omega arith) _ d.within d.counted)
 
-pub used_after-u-requires-clause-sum_to : goal.used_after-u-requires-clause-sum_to
-used_after-u-requires-clause-sum_to c =
-    let f = fits_few c.args.num_strings c.args.codepage c.args.lengths.now c.args.counts.now (sym c.fits.ensures ∙ c.if-not-fits.false) in
+pub returns-in_err-used : goal.returns-in_err-used
+returns-in_err-used c =
+    let a = c.args in
+    let p = err_from_is_err_and c.from_residual-in_err-used.result c.from_residual-in_err-used.ensures.1 in
+    rw (p.1, p.2)
+    (choose_on first_free_or_equal a.num_strings (rooms_of a.rooms) a.new.now a.codepage c.if-new-gt-MAX_BYTES.false
+    (used-refused a.num_strings a.codepage (rooms_of a.rooms) (chosen_by first_free_or_equal a.new.now) _ (c.in_ok-entries.ensures) (c.in_err-used.ensures)))
+
+pub returns : goal.returns
+returns c =
+    let a = c.args in
+    let e = c.in_ok-entries.entries in
     let d = c.search-s.ensures in
-    (d.sum, counted-small c.args.num_strings c.args.lengths.now c.args.counts.now f.lengths f.counts _ d.within d.counted)
-
-pub returns-in-Refused : goal.returns-in-Refused
-returns-in-Refused c =
-    let W : Rooms = rooms c.args.lengths.now c.args.counts.now c.args.text.now in
-    let Given : Answer (ℕ × ℕ × ℕ) = gives (spot_at c.args.num_strings W (first_free_or_equal c.args.new.now (first_entries c.args.num_strings W))) in
-    judge_unsound c.args.num_strings c.args.codepage W Given c.if-text-gt-MAX_BYTES.false (sym c.fits.ensures ∙ c.if-not-fits.false) _
-    (sym c.in-Refused.is ∙ c.used_after-u.ensures)
-    ∙ choose_on first_free_or_equal c.args.num_strings c.args.codepage W c.args.new.now c.if-new-gt-MAX_BYTES.false
-
-pub returns-in-Sound : goal.returns-in-Sound
-returns-in-Sound c =
-    let W : Rooms = rooms c.args.lengths.now c.args.counts.now c.args.text.now in
-    let Given : Answer (ℕ × ℕ × ℕ) = gives (spot_at c.args.num_strings W (first_free_or_equal c.args.new.now (first_entries c.args.num_strings W))) in
-    let hw = c.if-text-gt-MAX_BYTES.false in
-    let f = sym c.fits.ensures ∙ c.if-not-fits.false in
-    let e = sym c.in-Sound.is ∙ c.used_after-u.ensures in
-    let found = c.search-s.ensures in
-    spot_found first_free_or_equal c.args.num_strings c.args.codepage W c.args.new.now _ _ _
-    (found.chosen (judge_fit c.args.num_strings c.args.codepage W Given hw f _ e)) found.sum.is (judge_used c.args.num_strings c.args.codepage W Given hw f _ e)
-    ∙ judge_sound c.args.num_strings c.args.codepage W Given hw f _ e
-    ∙ choose_on first_free_or_equal c.args.num_strings c.args.codepage W c.args.new.now c.if-new-gt-MAX_BYTES.false
+    let u = used-fit e.n (rooms_of e.rooms) (c.in_ok-used.ensures) in
+    let fit : Fit e.n (rooms_of e.rooms) = record { lengths = omega arith; counts = omega arith; text = omega arith } in
+    choose_on first_free_or_equal a.num_strings (rooms_of a.rooms) a.new.now a.codepage c.if-new-gt-MAX_BYTES.false
+    (spot_found first_free_or_equal e.n (rooms_of e.rooms) a.new.now _ _ _ (d.chosen fit) d.sum.is
+    ∙ used-given a.num_strings a.codepage (rooms_of a.rooms) (chosen_by first_free_or_equal a.new.now) _ (c.in_ok-entries.ensures) _ (c.in_ok-used.ensures))

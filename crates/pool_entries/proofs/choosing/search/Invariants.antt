@@ -1,11 +1,13 @@
-use Rattle.std.proofs.Common.{◌-◌, ◌≤◌}
-use Rattle.pool_entries.specs.Entries.{rooms}
+use Rattle.std.proofs.Common.{◌≡◌}
+use Rattle.std.specs.Slice.Iter.{chunks_rest, chunks_size}
+use Rattle.pool_entries.specs.Rooms.{rooms_of}
 use Rattle.pool_entries.specs.inner.Fit.{Fit}
 use Rattle.pool_entries.specs.inner.Look.{SumTo, Counted, NoneUp}
+use Rattle.pool_entries.proofs.FirstFree.{Left}
 use Rattle.pool_entries.proofs.choosing.search.Given as goal
 
-abbrev pub invariant-loop-i : goal.invariant-loop-i
-invariant-loop-i l = (l.i ≤ l.n) × SumTo l.lengths l.i l.start × Counted l.counts 0 l.i × (Fit l.n (rooms l.lengths l.counts l.text) → NoneUp (rooms l.lengths l.counts l.text) l.new 0 l.i)
-
-abbrev pub decreases-loop-i : goal.decreases-loop-i
-decreases-loop-i l = l.n - l.i
+abbrev pub invariant-loop-block : goal.invariant-loop-block
+invariant-loop-block l =
+    (chunks_size l.block-iterator ≡ 1024) × Left l.entries.rooms.counts.now l.entries.n l.i (chunks_rest l.block-iterator)
+    × SumTo l.entries.rooms.lengths.now l.i l.start × Counted l.entries.rooms.counts.now 0 l.i
+    × (Fit l.entries.n (rooms_of l.entries.rooms) → NoneUp (rooms_of l.entries.rooms) l.new 0 l.i)

@@ -11,6 +11,3 @@ abbrev pub invariant-loop-i : goal.invariant-loop-i
 invariant-loop-i l =
     Run l.initial.lengths 0 (lengths_in l.s) l.n l.lengths l.i × Run l.initial.counts 0 (counts_in l.s) l.n l.counts l.i
     × (4 + 4 * l.i ≤ l.at) × (l.at ≤ length l.s) × (entries_in (length l.s - l.i) (drop l.at l.s) ≡ gives (drop l.i (lengths_in l.s), drop l.i (counts_in l.s)))
-
-abbrev pub decreases-loop-i : goal.decreases-loop-i
-decreases-loop-i l = l.n - l.i

@@ -1,25 +1,29 @@
-use Rattle.common.proofs.Parts.{length-over_at}
-use mathlib.Core.Path.{ap, ◌∙◌}
-use Prim.Native.Nat.{ℕ}
-use native.Mathlib.Omega.{arith}
+use Rattle.std.proofs.Common.{rules, ◌≡◌, subst, sym, ap₂, inl, inr}
 use mathlib.Core.List.{List}
-use lib.ListN.{length, get_or}
-use Rattle.pool_stream.specs.Entries.{entry_bytes}
-use Rattle.pool_stream.proofs.Writing.{length-suc, turn_room, turn_out}
+use Prim.Native.Nat.{ℕ}
+use Rattle.pool_stream.specs.inner.Write.{entries_bytes}
+use Rattle.pool_stream.proofs.Writing.{Through, through-none, through-room, through-next, through-all, none-left, none-counted}
 use Rattle.pool_stream.proofs.write.write_entries.Goals as goal
+
+pub loop-size-init : goal.loop-size-init
+loop-size-init c =
+    let i = c.into_iter-size-iterator.result in
+    let a : i.a.rest.now ≡ c.args.lengths.now = search rules in
+    let b : i.b.rest.now ≡ c.args.counts.now = search rules in
+    let all : List ℕ = entries_bytes c.args.lengths.now c.args.counts.now in
+    subst (λ (r : List ℕ). Through all r c.args.out.now c.args.out.now 4) (sym (ap₂ entries_bytes a b)) (through-none all c.args.out.now)
 
 pub write_entry-at-requires : goal.write_entry-at-requires
 write_entry-at-requires c =
-    let l = c.loop-i in
-    omega (arith, turn_room c.args.lengths.now c.args.counts.now c.args.out.now c.args.n l.i c.requires.0 c.requires.1 (omega arith) c.requires.2, l.invariant)
+    let steps = c.in-Some.ensures.steps in
+    through-room c.loop-size.invariant c.requires _ _ (ap₂ entries_bytes steps.0 steps.1)
 
-pub loop-i-preserved : goal.loop-i-preserved
-loop-i-preserved c =
-    let l = c.loop-i in
-    let x : List ℕ = entry_bytes (get_or c.args.lengths.now l.i 0) (get_or c.args.counts.now l.i 0) in
-    let room = turn_room c.args.lengths.now c.args.counts.now c.args.out.now c.args.n l.i c.requires.0 c.requires.1 (omega arith) c.requires.2 in (
-      omega arith,
-      ap length c.write_entry-at.ensures.1 ∙ length-over_at l.at x l.out (omega (arith, l.invariant)) ∙ l.invariant.1,
-      omega (arith, c.write_entry-at.ensures.0, l.invariant.2, length-suc c.args.lengths.now c.args.counts.now l.i (omega arith) (omega arith)),
-      turn_out c.args.lengths.now c.args.counts.now c.args.out.now c.args.n l.i c.requires.0 c.requires.1 (omega arith) c.requires.2 l.out _ l.at l.invariant.3 l.invariant.2 c.write_entry-at.ensures.1,
-    )
+pub loop-size-preserved : goal.loop-size-preserved
+loop-size-preserved c =
+    let steps = c.in-Some.ensures.steps in
+    through-next c.loop-size.invariant c.requires _ _ (ap₂ entries_bytes steps.0 steps.1) c.write_entry-at.ensures.0 c.write_entry-at.ensures.1
+
+pub returns : goal.returns
+returns c =
+    let i = c.loop-size.size-iterator in
+    through-all c.loop-size.invariant (elim c.in-None.ensures.steps [ inl w ↦ none-left i.a.rest.now i.b.rest.now w.1.0 | inr w ↦ none-counted i.a.rest.now i.b.rest.now w.1.0 ])

@@ -1,12 +1,14 @@
-use mathlib.Core.Path.{sym, ap, ◌∙◌}
+use mathlib.Core.Path.{ap, ◌∙◌}
 use Prim.Native.Nat.{ℕ}
+use native.Mathlib.Omega.{arith}
 use mathlib.Core.List.{List}
 use lib.ListN.{take}
 use Rattle.common.specs.Lists.{total}
-use Rattle.common.specs.Answers.{Answer, outcome, written_to}
-use Rattle.pool_entries.specs.Entries.{Rooms, rooms}
-use Rattle.pool_entries.specs.Calls.{judged_as}
-use Rattle.pool_entries.proofs.Calls.{call_passed, call_on}
+use Rattle.common.specs.Answers.{outcome, written_to}
+use Rattle.pool_entries.specs.Entries.{Rooms}
+use Rattle.pool_entries.specs.Rooms.{rooms_of}
+use Rattle.pool_entries.specs.inner.Fit.{Fit}
+use Rattle.pool_entries.proofs.Calls.{call_passed, call_given, call_on}
 use Rattle.pool_stream.specs.Entries.{stream_bytes}
 use Rattle.pool_stream.specs.inner.Write.{stream_by}
 use Rattle.pool_stream.proofs.Writing.{stream-same}
@@ -14,25 +16,21 @@ use Rattle.pool_stream.proofs.write.write_stream.Goals as goal
 
 pub mark-requires : goal.mark-requires
 mark-requires c =
-    let W : Rooms = rooms c.args.lengths.now c.args.counts.now c.args.text.now in
-    let Used : ℕ = total (take c.args.num_strings c.args.lengths.now) in
-    (call_passed c.args.num_strings c.args.codepage W Used (sym (ap judged_as c.in-Sound.is) ∙ c.judge-state.ensures)).page
+    let a = c.args in
+    let W : Rooms = rooms_of a.rooms in
+    let Sound : ℕ × Rooms × ℕ = (a.num_strings, W, total (take a.num_strings W.lengths)) in
+    (call_passed a.num_strings a.codepage W Sound c.in_ok-state.ensures).page
 
-pub write_fitting-requires : goal.write_fitting-requires
-write_fitting-requires c =
-    let W : Rooms = rooms c.args.lengths.now c.args.counts.now c.args.text.now in
-    let Used : ℕ = total (take c.args.num_strings c.args.lengths.now) in
-    let p = call_passed c.args.num_strings c.args.codepage W Used (sym (ap judged_as c.in-Sound.is) ∙ c.judge-state.ensures) in
-    (p.fit.lengths, p.fit.counts, p.few)
-
-pub returns-in-Sound : goal.returns-in-Sound
-returns-in-Sound c =
-    let W : Rooms = rooms c.args.lengths.now c.args.counts.now c.args.text.now in
-    let Used : ℕ = total (take c.args.num_strings c.args.lengths.now) in
-    let Out : List ℕ = c.args.out.now in
-    let Bytes : Answer (ℕ × List ℕ) = written_to Out (stream_bytes c.args.num_strings c.args.long_string_refs c.args.codepage W) in
-    let e = sym (ap judged_as c.in-Sound.is) ∙ c.judge-state.ensures in
+pub returns : goal.returns
+returns c =
+    let a = c.args in
+    let W : Rooms = rooms_of a.rooms in
+    let Sound : ℕ × Rooms × ℕ = (a.num_strings, W, total (take a.num_strings W.lengths)) in
+    let Out : List ℕ = a.out.now in
+    let e = c.in_ok-state.state.entries in
+    let fit : Fit e.n (rooms_of e.rooms) = record { lengths = omega arith; counts = omega arith; text = omega arith } in
     c.write_fitting.ensures
-    ∙ ap (λ (m : ℕ). outcome Out (written_to Out (stream_by m c.args.num_strings c.args.lengths.now c.args.counts.now))) c.mark.ensures
-    ∙ ap (λ (x : List ℕ). outcome Out (written_to Out x)) (stream-same c.args.num_strings c.args.long_string_refs c.args.codepage W (call_passed c.args.num_strings c.args.codepage W Used e).fit)
-    ∙ ap (outcome Out) (call_on c.args.num_strings c.args.codepage W Used e Bytes)
+    ∙ ap (λ (m : ℕ). outcome Out (written_to Out (stream_by m e.n e.rooms.lengths.now e.rooms.counts.now))) c.mark.ensures
+    ∙ ap (λ (x : List ℕ). outcome Out (written_to Out x)) (stream-same e.n a.long_string_refs a.codepage (rooms_of e.rooms) fit)
+    ∙ ap (λ (y : ℕ × Rooms × ℕ). outcome Out (written_to Out (stream_bytes y.0 a.long_string_refs a.codepage y.1))) (call_given a.num_strings a.codepage W Sound c.in_ok-state.ensures)
+    ∙ ap (outcome Out) (call_on a.num_strings a.codepage W Sound c.in_ok-state.ensures (written_to Out (stream_bytes a.num_strings a.long_string_refs a.codepage W)))

@@ -1,36 +1,54 @@
-use mathlib.Core.Path.{◌≡◌, sym, ap, ◌∙◌}
+use mathlib.Core.Path.{sym, ap, ◌∙◌}
+use Prim.Native.Nat.{ℕ, ◌-◌, ◌<◌}
 use native.Mathlib.Omega.{arith}
-use lib.ListN.{take}
-use lib.IntN.{ℤ}
+use lib.ListN.{get_or}
 use mir.Syntax.{w32}
-use mir.Val.{to_z, of_z}
 use mir.ValLaws.{to_z-of_z}
-use Prim.Native.Nat.{ℕ}
-use Rattle.common.specs.Lists.{total}
-use Rattle.pool_entries.specs.Calls.{judged_as}
-use Rattle.pool_entries.proofs.Calls.{call_passed, call_size, call_given}
-use Rattle.stringpool.specs.Pool.{Rooms, rooms}
-use Rattle.stringpool.proofs.Drop.{drop-sound}
-use Rattle.std.proofs.Common.{rules}
+use Rattle.common.proofs.Sums.{total-le}
+use Rattle.order.specs.Order.{drop_fits_lem}
+use Rattle.order.proofs.Laws.{drop-fits}
+use Rattle.stringpool.specs.Pool.{rooms_of}
+use Rattle.stringpool.proofs.Judging.{judged}
+use Rattle.stringpool.proofs.Drop.{drops_at, not_dropped, drop_more, drop-last}
+use Rattle.stringpool.specs.declared.entry.Plan.TheVariants.{Count}
+use Rattle.stringpool.specs.inner.Plan.{put_at}
+use Rattle.std.proofs.lemmas.Result.{err_from_is_err_and}
+use Rattle.std.proofs.Common.{rules, Ok, Err}
 use Rattle.stringpool.proofs.drops.plan_drop.Goals as goal
 
-pub drop_sound-requires : goal.drop_sound-requires
-drop_sound-requires c =
-    let W : Rooms = rooms c.args.lengths.now c.args.counts.now c.args.text.now in
-    let n : ℕ = c.args.p.num_strings in
-    let Used : ℕ = total (take n c.args.lengths.now) in
-    let e = sym (ap judged_as c.in-Sound.is) ∙ c.judge-state.ensures in
-    let f = call_passed n c.args.p.codepage W Used e in
-    let u = call_given n c.args.p.codepage W Used e in
-    (f.fit.lengths, f.fit.counts, f.few, u, omega (arith, u, f.fit.text, call_size n c.args.p.codepage W Used e))
+pub returns-in_err-drop_fits : goal.returns-in_err-drop_fits
+returns-in_err-drop_fits c =
+    let j = judged c.args.p (rooms_of c.args.rooms) c.in_ok-used.ensures in
+    let e = err_from_is_err_and c.from_residual-in_err-drop_fits.result c.from_residual-in_err-drop_fits.ensures.1 in
+    rw (e.1, e.2)
+    (drops_at c.args.p (rooms_of c.args.rooms) c.args.number c.in_ok-used.ensures (to_z-of_z w32 c.args.number (search rules)) c.in_ok-at.ensures (Err c.in_err-drop_fits.field-0.0)
+    (not_dropped c.args.p (rooms_of c.args.rooms) j.fit c.in_ok-at.field-0.0 c.in_err-drop_fits.field-0.0
+    (c.in_err-drop_fits.ensures ∙ ap (drop_fits_lem c.args.p.num_strings c.in_ok-at.field-0.0) c.count_of-count.ensures)))
 
-pub returns-in-Sound : goal.returns-in-Sound
-returns-in-Sound c =
-    let W : Rooms = rooms c.args.lengths.now c.args.counts.now c.args.text.now in
+pub returns-then-count-gt1 : goal.returns-then-count-gt1
+returns-then-count-gt1 c =
+    let j = judged c.args.p (rooms_of c.args.rooms) c.in_ok-used.ensures in
+    let k : ℕ = c.in_ok-at.field-0.0 in
+    let less : ℕ = c.count_of-count.result - 1 in
+    drops_at c.args.p (rooms_of c.args.rooms) c.args.number c.in_ok-used.ensures (to_z-of_z w32 c.args.number (search rules)) c.in_ok-at.ensures (Ok (Count k less))
+    (drop_more c.args.p (rooms_of c.args.rooms) j.fit k
+    (c.in_ok-drop_fits.ensures ∙ ap (drop_fits_lem c.args.p.num_strings k) c.count_of-count.ensures)
+    j.few (omega (arith, c.if-count-gt1.true, c.count_of-count.ensures)) less (omega (arith, c.count_of-count.ensures)))
+
+pub start_of-start-requires : goal.start_of-start-requires
+start_of-start-requires c =
+    let j = judged c.args.p (rooms_of c.args.rooms) c.in_ok-used.ensures in
     let n : ℕ = c.args.p.num_strings in
-    let Used : ℕ = total (take n c.args.lengths.now) in
-    let z : ℤ = c.args.number in
-    let back : to_z w32 (of_z w32 z) ≡ z = to_z-of_z w32 z (search rules) in
-    let e = sym (ap judged_as c.in-Sound.is) ∙ c.judge-state.ensures in
-    drop-sound c.args.p z W back e
-    (c.drop_sound.ensures c.args.text.now (omega (arith, call_given n c.args.p.codepage W Used e, (call_passed n c.args.p.codepage W Used e).fit.text)) (call_size n c.args.p.codepage W Used e))
+    let k : ℕ = c.in_ok-at.field-0.0 in
+    let there : k < n = (drop-fits n k c.count_of-count.result (sym c.in_ok-drop_fits.ensures)).0 in
+    (omega (arith, there, j.fit.lengths), omega (arith, j.fit.text, j.large, total-le c.args.rooms.lengths.now k n (omega (arith, there))))
+
+pub returns : goal.returns
+returns c =
+    let j = judged c.args.p (rooms_of c.args.rooms) c.in_ok-used.ensures in
+    drops_at c.args.p (rooms_of c.args.rooms) c.args.number c.in_ok-used.ensures (to_z-of_z w32 c.args.number (search rules)) c.in_ok-at.ensures
+    (Ok (put_at c.in_ok-at.field-0.0 c.start_of-start.result (get_or c.args.rooms.lengths.now c.in_ok-at.field-0.0 0) c.in_ok-used.used 0))
+    (rw (c.start_of-start.ensures, j.sum)
+    (drop-last c.args.p (rooms_of c.args.rooms) j.fit c.in_ok-at.field-0.0
+    (c.in_ok-drop_fits.ensures ∙ ap (drop_fits_lem c.args.p.num_strings c.in_ok-at.field-0.0) c.count_of-count.ensures)
+    j.few j.large (omega (arith, c.if-count-gt1.false, c.count_of-count.ensures))))

@@ -16,7 +16,7 @@ pub starts_of-starts-requires : goal.starts_of-starts-requires
 starts_of-starts-requires c =
     let whole : length c.args.columns ≡ 64 = c.well_formed.0.1.0.1 in
     let types : List ColumnType = used_types c.args.columns c.args.count in
-    let given : (gives tt ≡ refusal_of (sound_columns c.args.columns c.args.count)) × (c.widths_of-judged.result.widths ≡ widths_for types c.args.long_string_refs) = widths_given c.args.columns c.args.count c.args.long_string_refs c.widths_of-judged.result.widths (rw c.in_default.is at c.widths_of-judged.ensures) in
+    let given : (gives tt ≡ refusal_of (sound_columns c.args.columns c.args.count)) × (c.in_ok-widths.field-0 ≡ widths_for types c.args.long_string_refs) = widths_given c.args.columns c.args.count c.args.long_string_refs c.in_ok-widths.field-0 c.in_ok-widths.ensures in
     let long = c.args.long_string_refs in
     let few = count-few c.args.columns c.args.count given.0 in
     let n = types_count c.args.columns c.args.count few whole in

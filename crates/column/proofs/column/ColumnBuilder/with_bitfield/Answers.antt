@@ -10,4 +10,4 @@ pub returns : goal.returns
 returns c =
     let back = to_z-of_z {w = w32} {z = c.args.type_bits} c.ranges.type_bits in
     let b = of_z w32 c.args.type_bits in
-    rw (sym (rw (c.in-Type.is, back) at c.type_of-read.ensures), mark_is 9 b, mark_is 12 b, mark_is 13 b, bits_are c.args.type_bits)
+    rw (sym (rw back at c.in-Some.ensures), mark_is 9 b, mark_is 12 b, mark_is 13 b, bits_are c.args.type_bits)

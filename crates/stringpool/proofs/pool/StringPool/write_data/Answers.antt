@@ -1,34 +1,25 @@
 use mathlib.Core.Path.{sym, ap, ◌∙◌}
-use Prim.Native.Nat.{ℕ}
 use native.Mathlib.Omega.{arith}
 use mathlib.Core.List.{List}
-use lib.ListN.{take}
-use Rattle.common.specs.Lists.{total}
-use Rattle.common.specs.Answers.{Answer, outcome, written_to}
-use Rattle.pool_entries.specs.Calls.{judged_as}
-use Rattle.pool_entries.proofs.Calls.{call_passed, call_size, call_given, call_on}
-use Rattle.stringpool.specs.Pool.{Rooms, rooms}
+use Prim.Native.Nat.{ℕ}
+use lib.ListN.{take, length-take}
+use Rattle.common.specs.Answers.{outcome, written_to}
+use Rattle.stringpool.specs.Pool.{rooms_of}
 use Rattle.stringpool.specs.Write.{data_bytes}
+use Rattle.text_room.proofs.Splice.{copy_small}
+use Rattle.stringpool.proofs.Judging.{judged, on_judged}
 use Rattle.stringpool.proofs.Streams.{data_same}
 use Rattle.stringpool.proofs.pool.StringPool.write_data.Goals as goal
 
-pub write_texts-requires : goal.write_texts-requires
-write_texts-requires c =
-    let W : Rooms = rooms c.args.lengths.now c.args.counts.now c.args.text.now in
-    let n : ℕ = c.args.self.num_strings in
-    let Used : ℕ = total (take n c.args.lengths.now) in
-    let e = sym (ap judged_as c.in-Sound.is) ∙ c.judge-state.ensures in
-    let f = (call_passed n c.args.self.codepage W Used e).fit.text in
-    let u = call_given n c.args.self.codepage W Used e in
-    (omega (arith, u, f), omega (arith, u, f, call_size n c.args.self.codepage W Used e))
+pub slice_bounds-copy_in-end : goal.slice_bounds-copy_in-end
+slice_bounds-copy_in-end c =
+    let j = judged c.args.self (rooms_of c.args.rooms) c.in_ok-used.ensures in
+    omega (arith, j.sum, j.fit.text, length-take c.in_ok-used.used c.args.rooms.text.now)
 
-pub returns-in-Sound : goal.returns-in-Sound
-returns-in-Sound c =
-    let W : Rooms = rooms c.args.lengths.now c.args.counts.now c.args.text.now in
-    let n : ℕ = c.args.self.num_strings in
-    let Used : ℕ = total (take n c.args.lengths.now) in
-    let Bytes : Answer (ℕ × List ℕ) = written_to c.args.out.now (data_bytes c.args.self W) in
-    let e = sym (ap judged_as c.in-Sound.is) ∙ c.judge-state.ensures in
-    c.write_texts.ensures
-    ∙ ap (λ (x : List ℕ). outcome c.args.out.now (written_to c.args.out.now x)) (data_same c.args.self W (call_passed n c.args.self.codepage W Used e).fit (call_given n c.args.self.codepage W Used e))
-    ∙ ap (outcome c.args.out.now) (call_on n c.args.self.codepage W Used e Bytes)
+pub returns : goal.returns
+returns c =
+    let j = judged c.args.self (rooms_of c.args.rooms) c.in_ok-used.ensures in
+    c.copy_in.ensures
+    ∙ sym (copy_small (take c.in_ok-used.used c.args.rooms.text.now) c.args.out.now (omega (arith, j.large, length-take c.in_ok-used.used c.args.rooms.text.now)))
+    ∙ ap (λ (x : List ℕ). outcome c.args.out.now (written_to c.args.out.now x)) (data_same c.args.self (rooms_of c.args.rooms) j.fit j.sum)
+    ∙ ap (outcome c.args.out.now) (on_judged c.args.self (rooms_of c.args.rooms) c.in_ok-used.ensures (written_to c.args.out.now (data_bytes c.args.self (rooms_of c.args.rooms))))

@@ -1,4 +1,4 @@
-// Whether an entry can count up on a text: the last eight bytes are compared first.
+// Whether two texts are the same bytes, the last eight first, then sixteen at a time; and whether an entry can count up.
 ghost use Rattle.std.specs.Prelude.{◌≡◌, ℕ, ◌+◌, ◌^◌, ◌<◌, ◌≤◌, false, not, ◌&&◌, List, length, take, drop, slice_index};
 ghost use Rattle.common.specs.Choice.{◌=?◌, ◌<?◌};
 ghost use Rattle.pool_entries.specs.Entries.{entry};
@@ -24,6 +24,56 @@ pub(crate) fn last_eight(s: &[u8]) -> u64
     eight(s, n - 8)
 }
 
+// Whether eight bytes are the same: then the texts from there on are, if they are after them.
+fn same_eight(a: &[u8], b: &[u8], at: usize) -> bool
+    requires { (length a.now ≡ length b.now) × (at + 8 ≤ length a.now) }
+    ensures { same_bytes (drop at a.now) (drop at b.now) ≡ (result && same_bytes (drop (at + 8) a.now) (drop (at + 8) b.now)) }
+{
+    eight(a, at) == eight(b, at)
+}
+
+// Whether two texts are the same bytes, sixteen at a time. By `==` texts that differ in the middle took three times as long; eight at a
+// time, long ones that differ near their end a third more.
+fn same(a: &[u8], b: &[u8]) -> bool
+    ensures { result ≡ same_bytes a.now b.now }
+{
+    if a.len() != b.len() {
+        return false;
+    }
+    let turns = a.len() / 16;
+    for turn in 0..turns {
+        let at = 16 * turn;
+        if !same_eight(a, b, at) || !same_eight(a, b, at + 8) {
+            return false;
+        }
+    }
+    same_end(a, b, 16 * turns)
+}
+
+// The same of two texts of the same length, of fewer than sixteen bytes from a place on.
+fn same_end(a: &[u8], b: &[u8], from: usize) -> bool
+    requires { (length a.now ≡ length b.now) × (from ≤ length a.now) }
+    ensures { result ≡ same_bytes (drop from a.now) (drop from b.now) }
+{
+    if a.len() - from < 8 {
+        return same_from(a, b, from);
+    }
+    same_eight(a, b, from) && same_from(a, b, from + 8)
+}
+
+// The same, byte by byte.
+fn same_from(a: &[u8], b: &[u8], from: usize) -> bool
+    requires { (length a.now ≡ length b.now) × (from ≤ length a.now) }
+    ensures { result ≡ same_bytes (drop from a.now) (drop from b.now) }
+{
+    for i in from..a.len() {
+        if a[i] != b[i] {
+            return false;
+        }
+    }
+    true
+}
+
 // Whether an entry of that count is used and can be used once more.
 fn counts_up(count: u16) -> bool
     ensures { result ≡ (not (count =? 0) && count <? 65535) }
@@ -35,7 +85,7 @@ fn counts_up(count: u16) -> bool
 fn can_count_up(count: u16, text: &[u8], new: &[u8]) -> bool
     ensures { result ≡ can_count_up_lem new.now (entry text.now count) }
 {
-    counts_up(count) && text == new
+    counts_up(count) && same(text, new)
 }
 
 // False where the bytes of a text of that size at `at` are not all in the room, or end otherwise than one whose last eight bytes are `word`.
@@ -55,8 +105,6 @@ fn may_be(text: &[u8], at: usize, size: usize, word: u64) -> bool
 }
 
 // Whether the entry at `at` in the text room, as long as new, has the same bytes and can count up; false where its bytes are not all there.
-// A call of its own: inlined into the search it took 43.8 µs over 20,000 entries, and 39.2 so.
-#[inline(never)]
 fn up_at(count: u16, text: &[u8], at: usize, new: &[u8]) -> bool
     requires { at + length new.now < 2 ^ 64 }
     ensures { at + length new.now ≤ length text.now

@@ -1,15 +1,25 @@
--- An array of what a call gives at each element of another is its map.
-use mathlib.Core.Path.{◌≡◌, sym, ◌∙◌}
+-- An array filled, place by place, with what a function makes of another's elements.
+use mathlib.Core.Path.{◌≡◌, sym, ap, ◌∙◌}
+use Prim.Native.Nat.{ℕ, ◌+◌, ◌≤◌, ◌<◌}
 use mathlib.Core.List.{List, map}
-use Prim.Native.Nat.{ℕ}
+use native.Mathlib.Numerals.{add-one}
 use native.Mathlib.Omega.{arith}
-use lib.ListN.{length, length-map, get_or-map}
-use denote.Param.Members.{Mut, Called}
-use Rattle.std.specs.Array.{IsMapOf}
-use Rattle.std.proofs.lemmas.List.{ext_get_or}
+use lib.ListN.{length, drop, get_or, set, length-map, drop_of_length-le}
+use lib.Seq.{drop-cons}
+use Rattle.common.proofs.Parts.{over_all}
+use Rattle.common.proofs.Writing.{Writing, begin, step_front, done_front}
 
-module _ {F A B : Type 0} (g : Mut F (A × Unit {0}) B) (f : F) (h : A → B) where
-  pub mapped : (none : A) (xs : List A) (ys : List B) (n : ℕ) → length xs ≡ n → IsMapOf g f xs ys n → ((p : F) (x : A) (y : B) (q : F) → Called g p (x, tt) y q → y ≡ h x) → ys ≡ map h xs
-  mapped none xs ys n whole is gives =
-      ext_get_or (h none) ys (map h xs) (is.long ∙ sym whole ∙ sym (length-map xs h))
-      (λ i inside. let here = is.at i none (h none) (omega (arith, is.long, inside)) in gives _ _ _ _ here.2 ∙ sym (get_or-map h xs i none))
+abbrev pub Mapped : {A B : Type 0} → (A → B) → List A → List B → List B → ℕ → Type 0
+Mapped f xs before out c = Writing before 0 (map f xs) (map f (drop c xs)) out c
+
+pub mapped_begin : {A B : Type 0} (f : A → B) (xs : List A) (before : List B) → length before ≡ length xs → Mapped f xs before before 0
+mapped_begin f xs before same = begin (omega (arith, same, length-map xs f))
+
+pub mapped_step : {A B : Type 0} (f : A → B) (xs : List A) (before out : List B) (c : ℕ) (none : A) (y : B) → Mapped f xs before out c → c < length xs
+    → y ≡ f (get_or xs c none) → Mapped f xs before (set out c y) (c + 1)
+mapped_step f xs before out c none y w here made = rw (made, add-one) (rw add-one at (step_front w (ap (map f) (drop-cons xs c none here))))
+
+pub mapped_done : {A B : Type 0} (f : A → B) (xs : List A) (before out : List B) (c : ℕ) → Mapped f xs before out c → length xs ≤ c
+    → length before ≡ length xs → out ≡ map f xs
+mapped_done f xs before out c w end same =
+    done_front w (ap (map f) (drop_of_length-le xs end)) ∙ over_all (map f xs) before (length-map xs f ∙ sym same)

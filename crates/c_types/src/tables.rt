@@ -18,9 +18,14 @@ use table::Table;
 impl From<TableParts> for Table {
     ghost from_gives = { λ parts t. t ≡ table_in_lem parts };
 
+    // A walk: the array's `map` took three times as long, in every call on a layout.
     fn from(parts: TableParts) -> Table {
+        let mut columns = [Column::build().int16(); 64];
+        for c in 0..64 {
+            columns[c] = Column::from(parts.columns[c]);
+        }
         Table {
-            columns: parts.columns.map(Column::from),
+            columns,
             count: parts.count,
             long_string_refs: parts.long_string_refs,
         }
@@ -31,8 +36,12 @@ impl From<Table> for TableParts {
     ghost from_gives = { λ t parts. parts ≡ table_out_lem t };
 
     fn from(table: Table) -> TableParts {
+        let mut columns = [ColumnParts::default(); 64];
+        for c in 0..64 {
+            columns[c] = ColumnParts::from(table.columns[c]);
+        }
         TableParts {
-            columns: table.columns.map(ColumnParts::from),
+            columns,
             count: table.count,
             long_string_refs: table.long_string_refs,
         }
@@ -69,21 +78,33 @@ pub fn on_table<T>(table: TableParts, answer: Result<T, Refusal>) -> Result<T, R
 pub fn laid(answer: Result<TableParts, Refused>, long_string_refs: bool) -> TableAnswer
     ensures { result ≡ laid_told long_string_refs answer }
 {
-    let nothing = TableParts {
-        columns: [ColumnParts::default(); 64],
-        count: 0,
-        long_string_refs,
-    };
-    let (refused, table) = halves(answer, nothing);
-    TableAnswer { refused, table }
+    match answer {
+        Ok(table) => TableAnswer {
+            refused: Refused::default(),
+            table,
+        },
+        Err(refused) => TableAnswer {
+            refused,
+            table: TableParts {
+                columns: [ColumnParts::default(); 64],
+                count: 0,
+                long_string_refs,
+            },
+        },
+    }
 }
 
 // The layout that was handed over, judged.
 pub fn handed_back(judged: Result<Table, Refusal>, table: TableParts) -> TableAnswer
     ensures { result ≡ new_in table (answered judged) }
 {
-    let answer = on_table(table, judged.map(|_| table));
-    laid(answer, table.long_string_refs)
+    match on_table(table, judged) {
+        Ok(_) => TableAnswer {
+            refused: Refused::default(),
+            table,
+        },
+        Err(refused) => laid(Err(refused), table.long_string_refs),
+    }
 }
 
 impl From<Result<ValueRef, Refused>> for CellAnswer {

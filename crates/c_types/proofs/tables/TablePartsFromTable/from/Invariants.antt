@@ -1,0 +1,8 @@
+use mathlib.Core.Path.{◌≡◌}
+use lib.ListN.{length}
+use Rattle.c_types.specs.Columns.{parts_of}
+use Rattle.c_types.proofs.Mapped.{Mapped}
+use Rattle.c_types.proofs.tables.TablePartsFromTable.from.Given as goal
+
+abbrev pub invariant-loop-c : goal.invariant-loop-c
+invariant-loop-c l = (length l.initial.columns ≡ 64) × Mapped parts_of l.table.columns l.initial.columns l.columns l.c

@@ -38,11 +38,13 @@ fn write_cells<F: Fixed>(kinds: &[u8], numbers: &[i32], run: Stride, out: &mut [
     ensures { out.new ≡ plain (form_bytes F.FORM kinds.now numbers.now run) 0 run.rows over out.old }
 {
     let width = F::FORM.width();
+    let mut at = 0;
     for row in 0..run.rows {
         let cell = row * run.step + run.column;
         let number = number_of(F::FORM, Cell::new(kinds[cell], numbers[cell]));
-        let at = row * width;
-        let _ = little_endian::write(number, width, &mut out[at..at + width], 0);
+        let end = at + width;
+        let _ = little_endian::write(number, width, &mut out[at..end], 0);
+        at = end;
     }
 }
 
@@ -52,11 +54,30 @@ fn number_of(form: CellForm, cell: Cell) -> u32
     requires { Judged (form_stored form cell) }
     ensures { Numbered (form_stored form cell) result }
 {
-    match (form, cell) {
-        (CellForm::Int16, Cell::Int(n)) => (i64::from(n) + 32_768) as u32,
-        (CellForm::Int32, Cell::Int(n)) => (i64::from(n) + 2_147_483_648) as u32,
-        (CellForm::ShortRef | CellForm::LongRef, Cell::Str(n)) => n as u32,
-        (CellForm::Binary, Cell::Binary) => BINARY,
-        _ => NULL,
+    match form {
+        CellForm::Int16 => {
+            let Cell::Int(n) = cell else {
+                return NULL;
+            };
+            (i64::from(n) + 32_768) as u32
+        }
+        CellForm::Int32 => {
+            let Cell::Int(n) = cell else {
+                return NULL;
+            };
+            (i64::from(n) + 2_147_483_648) as u32
+        }
+        CellForm::ShortRef | CellForm::LongRef => {
+            let Cell::Str(n) = cell else {
+                return NULL;
+            };
+            n as u32
+        }
+        CellForm::Binary => {
+            let Cell::Binary = cell else {
+                return NULL;
+            };
+            BINARY
+        }
     }
 }

@@ -59,12 +59,12 @@ loop-row-preserved g c =
     let f = form_bytes g.F.Fixed.FORM a.kinds.now a.numbers.now a.run in
     let w = c.width-width.result in
     let width_is = rw c.FORM.ensures at c.width-width.ensures in
-    let at = l.row * w in
+    let at = l.at in
     let n = c.number_of-number.result in
     let bytes = given_bytes (f l.row) in
     let rest = plain f (l.row + 1) (a.run.rows - (l.row + 1)) in
     let all : a.run.rows * w ≤ length a.out.now = rw width_is c.requires.room in
-    let room : at + w ≤ length l.out = omega (arith, next_le l.row a.run.rows w c.loop-row-test.true) in
+    let room : at + w ≤ length l.out = omega (arith, next_le l.row a.run.rows w c.loop-row-test.true, l.invariant.start) in
     let k = at + w - at in
     let ke : k ≡ w = omega arith in
     let part = take k (drop at l.out) in
@@ -76,7 +76,8 @@ loop-row-preserved g c =
     ap (λ (x : _ × List ℕ). x.1) (c.write.ensures ∙ sym (written n w part 0 (over_at 0 (bytes_of w n) part) (omega arith) refl)) ∙ ap (λ (x : List ℕ). x over part) is in
     let left : put_mid at k l.out c.write.new.out ≡ over_at at bytes l.out = rw put (exact_over bytes l.out at k (omega arith) (size ∙ sym ke)) in
     record {
-      left = rw (next-is, left) (over_next bytes rest l.out at w (omega arith) size
+      start = rw next-is (omega (arith, l.invariant.start));
+      left = rw left (over_next bytes rest l.out at w (omega arith) size
           ∙ ap (λ (x : List ℕ). over_at at x l.out) (sym (plain_turn f l.row a.run.rows c.loop-row-test.true))
           ∙ l.invariant.left);
       fine = (fine g.F.Fixed.FORM a.kinds.now a.numbers.now a.run l.row c.loop-row-test.true l.invariant.fine).1;

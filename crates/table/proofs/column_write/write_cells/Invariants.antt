@@ -12,6 +12,7 @@ abbrev pub invariant-loop-row : goal.invariant-loop-row
 invariant-loop-row g l =
     let bytes_in = form_bytes g.F.Fixed.FORM l.kinds l.numbers l.run in
     record {
-      left : over_at (l.row * l.width) (plain bytes_in l.row (l.run.rows - l.row)) l.out ≡ plain bytes_in 0 l.run.rows over l.initial.out;
+      start : l.at ≡ l.row * l.width;
+      left : over_at l.at (plain bytes_in l.row (l.run.rows - l.row)) l.out ≡ plain bytes_in 0 l.run.rows over l.initial.out;
       fine : refusal_of (each (cell_number g.F.Fixed.FORM l.kinds l.numbers l.run) (from l.row (l.run.rows - l.row))) ≡ gives tt;
     }

@@ -89,10 +89,7 @@ pub fn is_valid<W: Write>(w: &mut W, words: Words<'_>) -> io::Result<()>
     let mut name = [0u16; 65_540];
     let given = name_in(words.next(), &mut name);
     match streamname::is_valid(front(&name, given), words.byte() == b'1') {
-        Ok(valid) => {
-            shown::say(w, b"ok ")?;
-            shown::flag(w, valid)
-        }
+        Ok(valid) => shown::say(w, if valid { b"ok 1" } else { b"ok 0" }),
         Err(why) => shown::refused(w, why),
     }
 }

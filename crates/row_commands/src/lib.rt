@@ -37,33 +37,50 @@ impl Show<Handed> for Plain {
     }
 }
 
-// Values, a reference by its text in a pool.
+// Cells, a reference by its text in a pool.
 #[derive(Clone, Copy)]
 struct Texts<'a> {
     pool: StringPool,
     rooms: Rooms<'a, 'a>,
 }
 
-impl Show<ValueRef> for Texts<'_> {
-    fn show<W: Write>(&self, w: &mut W, at: usize, value: ValueRef) -> io::Result<()> {
+impl Show<Handed> for Texts<'_> {
+    fn show<W: Write>(&self, w: &mut W, at: usize, cell: Handed) -> io::Result<()> {
         comma(w, at)?;
-        match value {
-            ValueRef::Str(text) => shown::text(w, self.pool.get(self.rooms, text.0)),
-            _ => shown::cell(w, value.into()),
+        if cell.kind == 2 {
+            return shown::text(w, self.pool.get(self.rooms, cell.number));
         }
+        shown::cell(w, cell)
     }
 }
 
-fn cells_out<W: Write>(w: &mut W, rows: usize, kinds: &[u8], numbers: &[i32]) -> io::Result<()> {
-    let mut cells = [Handed { kind: 0, number: 0 }; 65_600];
-    for (cell, (kind, number)) in cells.iter_mut().zip(kinds.iter().zip(numbers)) {
-        *cell = Handed {
+// The cells of a table. No list of them is made: it would be filled for each line, however few they are.
+fn cells_out<W: Write, S: Show<Handed>>(
+    w: &mut W,
+    rows: usize,
+    kinds: &[u8],
+    numbers: &[i32],
+    items: &S,
+) -> io::Result<()>
+    ensures { IfOk result (λ u. u ≡ tt) }
+{
+    write!(w, "ok {rows} ")?;
+    if kinds.is_empty() {
+        return shown::say(w, b"-");
+    }
+    let long = shown::is_long(kinds.len(), shown::same(kinds) && shown::same(numbers));
+    let once = if long { 1 } else { kinds.len() };
+    for (at, (kind, number)) in kinds.iter().zip(numbers).take(once).enumerate() {
+        let cell = Handed {
             kind: *kind,
             number: *number,
         };
+        items.show(w, at, cell)?;
     }
-    write!(w, "ok {rows} ")?;
-    shown::list(w, front(&cells, kinds.len()), &Plain)
+    if long {
+        return shown::times(w, kinds.len());
+    }
+    Ok(())
 }
 
 fn read_table<W: Write>(
@@ -83,7 +100,10 @@ fn read_table<W: Write>(
     let kinds = &mut kinds[..n];
     let numbers = &mut numbers[..n];
     match table.read_rows(stream, kinds, numbers) {
-        Ok(cells) => cells_out(w, rows, front(kinds, cells), front(numbers, cells))?,
+        Ok(cells) => {
+            let kinds = front(kinds, cells);
+            cells_out(w, rows, kinds, front(numbers, cells), &Plain)?
+        }
         Err(why) => refused(w, words, why)?,
     }
     Ok(desk.leaves(kept::cells(kinds, numbers, out), 5))
@@ -132,34 +152,58 @@ pub fn place<W: Write>(w: &mut W, words: Words<'_>) -> io::Result<()>
 }
 
 // The row reader's cells, as many as there is room for: how many there are.
-fn walk(table: Table, stream: &[u8], values: &mut [ValueRef]) -> usize {
+fn walk(table: Table, stream: &[u8], kinds: &mut [u8], numbers: &mut [i32]) -> usize {
     let mut reader = Rows::new(stream);
-    for (n, value) in values.iter_mut().enumerate() {
+    let room = kinds.len();
+    for (n, (kind, number)) in kinds.iter_mut().zip(numbers).enumerate() {
         let Ok(Some(next)) = reader.next(table).cell else {
             return n;
         };
-        *value = next;
+        *kind = next.kind();
+        *number = next.number();
     }
-    values.len()
+    room
 }
 
-// The rows of `LONG LAYOUT BYTES`, and how many cells were read. A pool that is not sound shows none.
-fn rows_of(
+// The cells of a stream whose rows were counted. A pool that is not sound shows none.
+fn walked<W: Write>(
+    w: &mut W,
     words: Words<'_>,
-    pool: StringPool,
-    rooms: Rooms<'_, '_>,
-    values: &mut [ValueRef],
-) -> Result<(usize, usize), Refusal> {
-    let table = laid(words)?;
+    table: Table,
+    stream: &[u8],
+    rows: usize,
+    texts: Texts<'_>,
+) -> io::Result<()>
+    ensures { IfOk result (λ u. u ≡ tt) }
+{
+    let mut kinds = [FILL; 65_600];
+    let mut numbers = [FILL_NUMBER; 65_600];
+    let cells = walk(table, stream, &mut kinds, &mut numbers);
+    if cells > 0 {
+        if let Err(why) = pool_values::to_value(ValueRef::Null, texts.pool, texts.rooms) {
+            return refused(w, words, why);
+        }
+    }
+    cells_out(
+        w,
+        rows,
+        front(&kinds, cells),
+        front(&numbers, cells),
+        &texts,
+    )
+}
+
+// The rows of `LONG LAYOUT BYTES`.
+fn rows_of<W: Write>(w: &mut W, words: Words<'_>, table: Table, texts: Texts<'_>) -> io::Result<()>
+    ensures { IfOk result (λ u. u ≡ tt) }
+{
     let mut stream = [0u8; 270_000];
     let n = words.next().next().bytes_in(&mut stream);
     let stream = front(&stream, n);
-    let rows = table.num_rows(stream)?;
-    let cells = walk(table, stream, values);
-    if cells > 0 {
-        pool_values::to_value(ValueRef::Null, pool, rooms)?;
+    match table.num_rows(stream) {
+        Ok(rows) => walked(w, words, table, stream, rows, texts),
+        Err(why) => refused(w, words, why),
     }
-    Ok((rows, cells))
 }
 
 // `rows LONG LAYOUT BYTES`: a reference is shown by its text.
@@ -171,12 +215,8 @@ pub fn rows<W: Write>(
 ) -> io::Result<()>
     ensures { IfOk result (λ u. u ≡ tt) }
 {
-    let mut values = [ValueRef::Null; 65_600];
-    match rows_of(words, pool, rooms, &mut values) {
-        Ok((rows, cells)) => {
-            write!(w, "ok {rows} ")?;
-            shown::list(w, front(&values, cells), &Texts { pool, rooms })
-        }
+    match laid(words) {
+        Ok(table) => rows_of(w, words, table, Texts { pool, rooms }),
         Err(why) => refused(w, words, why),
     }
 }

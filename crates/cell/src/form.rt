@@ -1,5 +1,5 @@
 // How the cells of a column are stored: its type and the width of references, without maximum and marks.
-ghost use Rattle.std.specs.Prelude.{◌≡◌, ◌≢◌, ◌+◌, ◌<◌, ◌≤◌, ◌^◌};
+ghost use Rattle.std.specs.Prelude.{◌≡◌, ◌+◌, ◌<◌, ◌≤◌, ◌^◌};
 ghost use Rattle.common.specs.Answers.{cell as place_of};
 ghost use Rattle.little_endian.specs.Numbers.{number_at};
 ghost use Rattle.common.specs.Refusals.{answered};
@@ -85,9 +85,6 @@ impl CellForm {
     pub fn stored(self, cell: Cell, row: usize, column: usize) -> Result<u32, Refusal>
         ensures { answered result ≡ stored (type_in self) (long_in self) (place_of row column) (handed_kind cell) (handed_number cell) }
     {
-        if matches!(cell, Cell::Null) {
-            return Ok(NULL);
-        }
         match self {
             CellForm::Int16 => integer_stored(cell, HALF_16, row, column),
             CellForm::Int32 => integer_stored(cell, HALF_32, row, column),
@@ -106,9 +103,12 @@ impl CellForm {
 }
 
 fn integer_stored(cell: Cell, half: u32, row: usize, column: usize) -> Result<u32, Refusal>
-    requires { (half ≤ 2147483648) × (cell ≢ Cell.Null) }
+    requires { half ≤ 2147483648 }
     ensures { answered result ≡ integer_stored_lem half (place_of row column) cell }
 {
+    if let Cell::Null = cell {
+        return Ok(NULL);
+    }
     let Cell::Int(n) = cell else {
         return Err(Refusal::CellKind { row, column });
     };
@@ -120,9 +120,11 @@ fn integer_stored(cell: Cell, half: u32, row: usize, column: usize) -> Result<u3
 }
 
 fn reference_stored(cell: Cell, long: bool, row: usize, column: usize) -> Result<u32, Refusal>
-    requires { cell ≢ Cell.Null }
     ensures { answered result ≡ reference_stored_lem long (place_of row column) cell }
 {
+    if let Cell::Null = cell {
+        return Ok(NULL);
+    }
     let Cell::Str(n) = cell else {
         return Err(Refusal::CellKind { row, column });
     };
@@ -137,9 +139,11 @@ fn reference_stored(cell: Cell, long: bool, row: usize, column: usize) -> Result
 }
 
 fn binary_stored(cell: Cell, row: usize, column: usize) -> Result<u32, Refusal>
-    requires { cell ≢ Cell.Null }
     ensures { answered result ≡ binary_stored_lem (place_of row column) cell }
 {
+    if matches!(cell, Cell::Null) {
+        return Ok(NULL);
+    }
     let Cell::Binary = cell else {
         return Err(Refusal::CellKind { row, column });
     };

@@ -25,13 +25,14 @@ fn unknown<W: Write>(w: &mut W, pool: StringPool, rooms: Rooms<'_, '_>) -> io::R
     }
 }
 
-// A value is created by `make`, whose text is taken by a choice.
+// A value is created by `make`, whose text is taken by a choice. It is lent the rooms anew, so whatever it does they stay these borrows.
 fn created<
     W: Write,
     F: FnOnce(Value, &[u8], StringPool, &mut RoomsMut<'_>) -> Result<Created, Refusal>,
 >(w: &mut W, words: Words<'_>, desk: Desk, rooms: &mut RoomsMut<'_>, make: F) -> io::Result<Desk>
     requires { F.IsAlwaysCallable make }
-    ensures { IfOk result (λ d. (d.lengths ≡ desk.lengths) × (d.counts ≡ desk.counts) × (d.text ≡ desk.text) × (d.places ≡ desk.places) × (d.left ≡ desk.left) × (d.width ≡ desk.width)) }
+    ensures same { SameRooms rooms.old rooms.new }
+    ensures kept { IfOk result (λ d. (d.lengths ≡ desk.lengths) × (d.counts ≡ desk.counts) × (d.text ≡ desk.text) × (d.places ≡ desk.places) × (d.left ≡ desk.left) × (d.width ≡ desk.width)) }
 {
     let Some(value) = value_of(cell_at(words)) else {
         unknown(w, desk.pool, rooms.view())?;
@@ -39,7 +40,12 @@ fn created<
     };
     let mut text = [0u8; 70_016];
     let n = words.after().bytes_in(&mut text);
-    match make(value, front(&text, n), desk.pool, rooms) {
+    let mut lent = RoomsMut {
+        lengths: &mut *rooms.lengths,
+        counts: &mut *rooms.counts,
+        text: &mut *rooms.text,
+    };
+    match make(value, front(&text, n), desk.pool, &mut lent) {
         Ok(made) => {
             shown::say(w, b"ok ")?;
             shown::cell(w, made.value.into())?;
@@ -59,7 +65,8 @@ pub fn create<W: Write>(
     desk: Desk,
     rooms: &mut RoomsMut<'_>,
 ) -> io::Result<Desk>
-    ensures { IfOk result (λ d. (d.lengths ≡ desk.lengths) × (d.counts ≡ desk.counts) × (d.text ≡ desk.text) × (d.places ≡ desk.places) × (d.left ≡ desk.left) × (d.width ≡ desk.width)) }
+    ensures same { SameRooms rooms.old rooms.new }
+    ensures kept { IfOk result (λ d. (d.lengths ≡ desk.lengths) × (d.counts ≡ desk.counts) × (d.text ≡ desk.text) × (d.places ≡ desk.places) × (d.left ≡ desk.left) × (d.width ≡ desk.width)) }
 {
     created(w, words, desk, rooms, pool_values::create_first)
 }
@@ -71,7 +78,8 @@ pub fn create_default<W: Write>(
     desk: Desk,
     rooms: &mut RoomsMut<'_>,
 ) -> io::Result<Desk>
-    ensures { IfOk result (λ d. (d.lengths ≡ desk.lengths) × (d.counts ≡ desk.counts) × (d.text ≡ desk.text) × (d.places ≡ desk.places) × (d.left ≡ desk.left) × (d.width ≡ desk.width)) }
+    ensures same { SameRooms rooms.old rooms.new }
+    ensures kept { IfOk result (λ d. (d.lengths ≡ desk.lengths) × (d.counts ≡ desk.counts) × (d.text ≡ desk.text) × (d.places ≡ desk.places) × (d.left ≡ desk.left) × (d.width ≡ desk.width)) }
 {
     created(w, words, desk, rooms, pool_values::create)
 }

@@ -124,15 +124,14 @@ pub fn read<W: Write>(w: &mut W, words: Words<'_>, desk: Desk, out: &mut [u8]) -
     }
 }
 
-// The cell of `LONG LAYOUT BYTES R C`.
-fn cell_at(words: Words<'_>) -> Result<ValueRef, Refusal> {
+// The cell of `LONG LAYOUT BYTES R C`, in the room for a stream that the caller has.
+fn cell_at(words: Words<'_>, stream: &mut [u8]) -> Result<ValueRef, Refusal> {
     let bytes = words.next().next();
     let row = bytes.next();
     let table = laid(words)?;
-    let mut stream = [0u8; 270_000];
-    let n = bytes.bytes_in(&mut stream);
+    let n = bytes.bytes_in(stream);
     table.read_cell(
-        front(&stream, n),
+        front(stream, n),
         row.number() as usize,
         row.next().number() as usize,
     )
@@ -142,7 +141,8 @@ fn cell_at(words: Words<'_>) -> Result<ValueRef, Refusal> {
 pub fn place<W: Write>(w: &mut W, words: Words<'_>) -> io::Result<()>
     ensures { IfOk result (λ u. u ≡ tt) }
 {
-    match cell_at(words) {
+    let mut stream = [0u8; 270_000];
+    match cell_at(words, &mut stream) {
         Ok(value) => {
             shown::say(w, b"ok ")?;
             shown::cell(w, value.into())

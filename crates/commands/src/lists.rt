@@ -1,12 +1,29 @@
 // Lists joined by commas, `-` for none. An item may be written `ITEM*N` for N of it.
 ghost use Rattle.std.specs.Prelude.{◌≡◌, ◌≤◌, length, min, MatchOption};
-ghost use Rattle.commands.specs.Words.{end_of, times_at_lem, first_at, first_times, next_at, next_times, items_left, kind_at, cell_number_at, IsPlace};
+ghost use Rattle.commands.specs.Words.{end_of, times_at_lem, first_at, first_times, after_end, next_at, next_times, items_left, kind_at, cell_number_at, IsPlace};
 ghost use Rattle.cell.specs.Handed.{cell_of};
 ghost use Rattle.cell.specs.Kinds.{ref_kind, ref_number};
 ghost use Rattle.std.specs.Iterator.{at_most};
 
 use crate::words::{End, Words};
 use cell::{Cell, ValueRef};
+
+// Where the item after this one stands. A number, as how often it stands is: room for an item that is answered would be filled at each
+// step. Neither is inlined, so that a step is short where it is taken.
+#[inline(never)]
+fn past(words: Words<'_>) -> usize
+    ensures { result ≡ after_end words.entry.text.now (end_of words.entry.text.now words.entry.at 3) }
+{
+    words.end(End::Item).after().at
+}
+
+// How often the item here stands.
+#[inline(never)]
+fn times(words: Words<'_>) -> u64
+    ensures { result ≡ times_at_lem words.entry.text.now (end_of words.entry.text.now words.entry.at 2) }
+{
+    words.end(End::Times).times()
+}
 
 // An item, and how often it stands from here on. Past the end of the word there is none.
 #[derive(Clone, Copy)]
@@ -21,7 +38,7 @@ impl<'a> Item<'a> {
     {
         Item {
             words,
-            left: words.end(End::Times).times(),
+            left: times(words),
         }
     }
 
@@ -37,16 +54,24 @@ impl<'a> Item<'a> {
         Item::at(words)
     }
 
-    pub fn next(self) -> Item<'a>
-        ensures { IsPlace result.words self.entry.words (next_at self.entry.words.text.now self.entry.words.at self.entry.left) × (result.left ≡ next_times self.entry.words.text.now self.entry.words.at self.entry.left) }
+    // In place, and inlined: where an item is handed over and back for each of its times, a list takes up to three times as long.
+    #[inline(always)]
+    fn step(&mut self)
+        ensures { IsPlace self.new.words self.old.words (next_at self.old.words.text.now self.old.words.at self.old.left) × (self.new.left ≡ next_times self.old.words.text.now self.old.words.at self.old.left) }
     {
         if self.left > 1 {
-            return Item {
-                left: self.left - 1,
-                ..self
-            };
+            self.left -= 1;
+        } else {
+            self.words.at = past(self.words);
+            self.left = times(self.words);
         }
-        Item::at(self.words.end(End::Item).after())
+    }
+
+    pub fn next(mut self) -> Item<'a>
+        ensures { IsPlace result.words self.entry.words (next_at self.entry.words.text.now self.entry.words.at self.entry.left) × (result.left ≡ next_times self.entry.words.text.now self.entry.words.at self.entry.left) }
+    {
+        self.step();
+        self
     }
 }
 
@@ -80,7 +105,7 @@ impl<'a> Iterator for Items<'a> {
         if here.at >= self.end.min(here.text.len()) {
             return None;
         }
-        self.item = self.item.next();
+        self.item.step();
         Some(here)
     }
 }
